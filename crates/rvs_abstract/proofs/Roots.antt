@@ -17,32 +17,16 @@ at-most x y e = grind (arith, nat_tests)
 beyond : (x y : ℕ) → nat_le x y ≡ false → y < x
 beyond x y e = grind (arith, nat_tests)
 
-next-square : (m : ℕ) → m * m < suc m * suc m
-next-square m = omega (arith, suc-mul m (suc m), mul-suc m m)
-
-squares : (a b : ℕ) → a ≤ b → a * a ≤ b * b
-squares a b h = mul-le-mul h h
-
 next-is : (n r : ℕ) (b : Bool) → IsRoot n r → nat_le (suc r * suc r) (suc n) ≡ b
     → IsRoot (suc n) (if b then suc r else r)
-next-is n r true h e = record {
-  below = at-most (suc r * suc r) (suc n) e;
-  above = omega (arith, h.above, next-square (suc r));
-}
-next-is n r false h e = record {
-  below = omega (arith, h.below);
-  above = beyond (suc r * suc r) (suc n) e;
-}
+next-is n r b h e = grind arith
 
 pub is-root : (n : ℕ) → IsRoot n (root n)
 is-root zero = record { below = omega arith; above = omega arith }
-is-root (suc n) =
-    next-is n (root n) (nat_le (suc (root n) * suc (root n)) (suc n)) (is-root n) refl
+is-root (suc n) = grind (arith, next-is, (is-root n))
 
 least-by : (n r s : ℕ) (b : Bool) → nat_le r s ≡ b → r * r ≤ n → n < suc s * suc s → r ≤ s
-least-by n r s true e h k = at-most r s e
-least-by n r s false e h k = let m : suc s ≤ r = beyond r s e in
-    absurd (omega (arith, h, k, squares (suc s) r m))
+least-by n r s b e h k = grind arith
 
 least : (n r s : ℕ) → r * r ≤ n → n < suc s * suc s → r ≤ s
 least n r s h k = least-by n r s (nat_le r s) refl h k
@@ -59,10 +43,8 @@ root_is n r h k =
     )
 
 next-small : (n r : ℕ) (b : Bool) → r ≤ n → (if b then suc r else r) ≤ suc n
-next-small n r true h = omega arith
-next-small n r false h = omega arith
+next-small n r b h = grind arith
 
 pub root-small : (n : ℕ) → root n ≤ n
 root-small zero = omega arith
-root-small (suc n) =
-    next-small n (root n) (nat_le (suc (root n) * suc (root n)) (suc n)) (root-small n)
+root-small (suc n) = grind (arith, next-small, (root-small n))

@@ -1,6 +1,6 @@
 -- Where the bytes from an address on lie, in the text, in the data or in neither.
-use Rattle.std.proofs.Common.{◌≡◌, ◌≤◌, ◌<◌, ℕ, ◌+◌, ◌-◌, Bool, true, false, cond, List, refl, sym}
-use Rattle.std.proofs.Common.{ap, ◌∙◌, arith, ◌*◌, ◌^◌, length}
+use Rattle.std.proofs.Common.{◌≡◌, ◌≤◌, ◌<◌, ℕ, ◌+◌, Bool, true, false, List}
+use Rattle.std.proofs.Common.{arith, ◌*◌, ◌^◌, length}
 use Rattle.std.specs.Prelude.{nat_le, nat_lt, ◌&&◌}
 use Rattle.std.proofs.lemmas.Bool.{leb-true, ltb-true}
 use Rattle.std.proofs.lemmas.Bool.Decides.{nat_tests}
@@ -8,7 +8,7 @@ use Rattle.rvs_insn.specs.Memory.{Memory, HasRoom, text_limit, data_limit}
 use Rattle.rvs_insn.proofs.Regions.{regions_are_apart, text_most, data_most}
 use Rattle.rvs_asm_text.specs.declared.bodies.Body.TheVariants.{Values}
 use Rattle.rvs_asm.specs.declared.location.Location.{Location}
-use Rattle.rvs_asm.specs.Locations.{IsLocation, address, next, moved}
+use Rattle.rvs_asm.specs.Locations.{IsLocation, address, next}
 use Rattle.rvs_asm.specs.Mending.{with_bits, in_region, in_section}
 
 -- the bytes from an address on are in this section, at this offset
@@ -27,24 +27,12 @@ inside base limit at low high = grind (arith, nat_tests)
 
 outside : (base limit at : ℕ) → (base ≤ at → at < base + limit → ⊥)
     → (nat_le base at && nat_lt at (base + limit)) ≡ false
-outside base limit at never = by_tests (nat_le base at) (nat_lt at (base + limit)) refl refl
-  where
-    by_tests : (a b : Bool) → nat_le base at ≡ a → nat_lt at (base + limit) ≡ b
-        → (a && b) ≡ false
-    by_tests true true e f =
-        absurd (never (leb-true base at e) (ltb-true at (base + limit) f))
-    by_tests true false e f = refl
-    by_tests false b e f = refl
+outside base limit at never = grind (arith, leb-true, ltb-true)
 
 region_here : (base limit off len : ℕ) → off + len ≤ limit → (k bits : ℕ) (bytes : List ℕ)
     → k + 4 ≤ len
     → in_region base limit (base + off + k) bits bytes ≡ with_bits bytes (off + k) bits
-region_here base limit off len h k bits bytes e =
-    let at = base + off + k in
-    let same : at - base ≡ off + k = omega arith in
-    ap (λ t. cond t (with_bits bytes (at - base) bits) bytes)
-    (inside base limit at (omega arith) (omega (arith, h, e)))
-    ∙ ap (λ n. with_bits bytes n bits) same
+region_here base limit off len h k bits bytes e = grind (arith, inside)
 
 pub text_here : (m : Memory) (off len : ℕ) → off + len ≤ text_limit m
     → Here m true (m.text_base + off) off len
@@ -56,27 +44,11 @@ data_here m off len h = region_here m.data_base (data_limit m) off len h
 
 pub text_there : (m : Memory) (off len : ℕ) → off + len ≤ text_limit m
     → There m false (m.text_base + off) len
-text_there m off len h = λ k bits bytes e.
-    let at = m.text_base + off + k in
-    let limit = data_limit m in
-    ap (λ t. cond t (with_bits bytes (at - m.data_base) bits) bytes)
-    (outside m.data_base limit at (λ low high.
-    let same : m.text_base + (off + k) ≡ m.data_base + (at - m.data_base) = omega (arith, low) in
-    regions_are_apart m (off + k) (at - m.data_base) (omega (arith, h, e))
-    (omega (arith, low, high))
-    same))
+text_there m off len h = grind (arith, outside, regions_are_apart)
 
 pub data_there : (m : Memory) (off len : ℕ) → off + len ≤ data_limit m
     → There m true (m.data_base + off) len
-data_there m off len h = λ k bits bytes e.
-    let at = m.data_base + off + k in
-    let limit = text_limit m in
-    ap (λ t. cond t (with_bits bytes (at - m.text_base) bits) bytes)
-    (outside m.text_base limit at (λ low high.
-    let same : m.text_base + (at - m.text_base) ≡ m.data_base + (off + k) = omega (arith, low) in
-    regions_are_apart m (at - m.text_base) (off + k) (omega (arith, low, high))
-    (omega (arith, h, e))
-    same))
+data_there m off len h = grind (arith, outside, regions_are_apart)
 
 pub no_more : (n : ℕ) → n ≡ n + 0
 no_more n = omega arith
@@ -84,28 +56,15 @@ no_more n = omega arith
 pub here_first : (memory : Memory) (text : Bool) (at off len bits : ℕ) (bytes : List ℕ)
     → Here memory text at off len → 4 ≤ len
     → in_section memory text at bits bytes ≡ with_bits bytes off bits
-here_first memory text at off len bits bytes h e =
-    ap (λ n. in_section memory text n bits bytes) (no_more at)
-    ∙ h 0 bits bytes (omega (arith, e))
-    ∙ ap (λ n. with_bits bytes n bits) (sym (no_more off))
+here_first memory text at off len bits bytes h e = grind (arith, no_more)
 
 pub there_first : (memory : Memory) (text : Bool) (at len bits : ℕ) (bytes : List ℕ)
     → There memory text at len → 4 ≤ len
     → in_section memory text at bits bytes ≡ bytes
-there_first memory text at len bits bytes h e =
-    ap (λ n. in_section memory text n bits bytes) (no_more at) ∙ h 0 bits bytes (omega (arith, e))
+there_first memory text at len bits bytes h e = grind (arith, no_more)
 
 -- ---- how far values reach
 pub values_fit : (p : Location) (size : ℕ) (args : List (List ℕ)) → HasRoom p.memory
     → IsLocation p → IsLocation (next p (Values size args))
     → address p + length args * size < 2 ^ 33
-values_fit p size args room here there =
-    by_section p.in_text p.memory p.text p.data_bytes (length args * size) room there
-  where
-    by_section : (b : Bool) (m : Memory) (t d n : ℕ) → HasRoom m
-        → IsLocation (moved (record { memory = m; in_text = b; text = t; data_bytes = d }) n)
-        → address (record { memory = m; in_text = b; text = t; data_bytes = d }) + n < 2 ^ 33
-    by_section true m t d n r there = let low = r.text_low in
-        omega (arith, low, there.text_short, text_most m)
-    by_section false m t d n r there = let low = r.data_low in
-        omega (arith, low, there.data_short, data_most m)
+values_fit p size args room here there = grind (arith, text_most, data_most)

@@ -1,5 +1,5 @@
 -- The fault that is told is the first.
-use Rattle.std.proofs.Common.{◌≡◌, ℕ, ◌+◌, List, [], ◌∷◌, ◌++◌, Option, Some, None, Ok, Err}
+use Rattle.std.proofs.Common.{◌≡◌, ℕ, ◌+◌, List, [], ◌∷◌, ◌++◌, Option, Some, None}
 use Rattle.std.proofs.Common.{refl, sym, ap, ◌∙◌, arith, append_assoc}
 use Rattle.std.proofs.lemmas.List.{append-nil}
 use Rattle.std.specs.Option.{option_or}
@@ -17,8 +17,7 @@ use Rattle.rvs_asm.specs.Laws.{SecondFaultsAreFirst}
 use Rattle.rvs_asm.proofs.Stands.{image_answered}
 
 pub refused_have_none : RefusedHaveNone
-refused_have_none text isa refusal image is stands = let both : Err refusal ≡ Ok image =
-    sym is ∙ image_answered text isa image stands in cc
+refused_have_none text isa refusal image is stands = grind (arith, image_answered)
 
 -- a line and those behind it, by whether the line is faulty
 first_by : (isa : Isa) (ss : Table) (p : Location) (n : ℕ) (r : Reading) (rs : List Reading)
@@ -98,9 +97,8 @@ second_by ss p n r rs None refusal is e later =
 second_from : (ss : Table) (p : Location) (n : ℕ) (rs : List Reading) (refusal : AsmRefusal)
     → second_fault ss p n rs ≡ Some refusal → IsFirstUnlinked ss p n rs refusal
 second_from ss p n [] refusal e = absurd cc
-second_from ss p n (r ∷ rs) refusal e = second_by ss p n r rs
-    (symbol_fault ss (address p) (body_of r)) refusal refl e
-    (second_from ss (next p (body_of r)) (n + 1) rs refusal)
+second_from ss p n (r ∷ rs) refusal e =
+    grind (arith, second_by, (second_from ss (next p (body_of r)) (n + 1) rs refusal))
 
 pub second_faults_are_first : SecondFaultsAreFirst
 second_faults_are_first memory ss rs refusal e = second_from ss (start memory) 1 rs refusal e

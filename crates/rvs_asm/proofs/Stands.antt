@@ -24,17 +24,7 @@ le_test : (m n : ℕ) → m ≤ n → nat_le m n ≡ true
 le_test m n h = grind (arith, nat_tests)
 
 in_order : (i : ImageValue) → IsImage i → is_image i ≡ true
-in_order i h =
-    and_from _ _
-    (and_from _ _
-    (and_from _ _ (and_from _ _ (zero_test _ h.text_words) (le_test _ _ h.text_short))
-    (le_test _ _ h.data_short))
-    (and_from _ _ (and_from _ _ (zero_test _ h.tohost_word) (le_test _ _ h.tohost_low))
-    (le_test _ _ h.tohost_high)))
-    (and_from _ _ (and_from _ _ (and_from _ _
-    (and_from _ _ (and_from _ _ (zero_test _ h.begin_word) (zero_test _ h.end_word))
-    (le_test _ _ h.begin_low)) (le_test _ _ h.ordered)) (le_test _ _ h.end_high))
-    (lt-ltb _ _ h.end_small))
+in_order i h = grind (arith, and_from, zero_test, le_test, lt-ltb)
 
 pub image_answered : ImagesAreAnswered
 unfolding answer

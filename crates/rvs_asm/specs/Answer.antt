@@ -1,5 +1,5 @@
 -- The image that stands to a text, or the first reason why none does.
-use Rattle.std.specs.Prelude.{◌≡◌, ◌⊎◌, ℕ, true, false, Option, Some, None, Result, Ok, Err, List}
+use Rattle.std.specs.Prelude.{◌≡◌, ℕ, true, false, Option, Some, None, Result, Ok, Err, List}
 use Rattle.std.specs.Prelude.{[], codes}
 use Rattle.rvs_insn.specs.Isa.{Isa}
 use Rattle.rvs_insn.specs.Memory.{Memory}
@@ -7,7 +7,6 @@ use Rattle.rvs_asm_text.specs.Text.{lines_of}
 use Rattle.rvs_machine.specs.Image.{ImageValue, if_image, IsImage}
 use Rattle.rvs_asm.specs.declared.refusal.AsmKind.TheVariants.{MissingSymbol, BadRegion}
 use Rattle.rvs_asm.specs.declared.refusal.AsmRefusal.{AsmRefusal}
-use Rattle.rvs_asm.specs.Refusals.{no_memory}
 use Rattle.rvs_asm.specs.Symbols.{Table, address_of, symbols_of}
 use Rattle.rvs_asm.specs.Locations.{Reading, readings, start, labels}
 use Rattle.rvs_asm.specs.Bytes.{section}
@@ -75,8 +74,3 @@ pub record Assembles (text : List ℕ) (isa : Isa) (image : ImageValue) : Type 0
       (text_readings text)
   -- its regions are in order
   pub regions : IsImage image
-
--- what a call answers: what is defined, or want of memory
-abbrev pub IsAnswer : Result ImageValue AsmRefusal → Result ImageValue AsmRefusal → Type 0
-IsAnswer defined (Ok image) = defined ≡ Ok image
-IsAnswer defined (Err refusal) = (refusal ≡ no_memory) ⊎ (defined ≡ Err refusal)

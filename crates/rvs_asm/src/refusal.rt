@@ -4,7 +4,8 @@ ghost use Rattle.rvs_asm.specs.Faults.{kind_of};
 ghost use Rattle.rvs_asm.specs.KindNumbers.{kind_number};
 
 use rvs_asm_text::LineFault;
-use rvs_base::{NoMemory, Text};
+use rvs_base::Text;
+use rvs_fault::Fault;
 
 /// Why no image stands to a text.
 #[derive(Drop)]
@@ -40,12 +41,10 @@ pub enum AsmKind {
     NotInIsa,
     /// The word at `tohost` or the signature doesn't lie in the data, or is not aligned.
     BadRegion,
-    /// The allocator refused.
-    NoMemory,
 }
 
 /// A refusal, with the number of its line from 1. Line 0 is that of the whole text: of a missing
-/// symbol, a bad region and want of memory.
+/// symbol and a bad region.
 #[derive(Drop)]
 pub struct AsmRefusal {
     pub line: u64,
@@ -53,7 +52,7 @@ pub struct AsmRefusal {
 }
 
 impl AsmKind {
-    /// The number of the kind, from 1 to 13 in the order in which they are declared.
+    /// The number of the kind, from 1 to 12 in the order in which they are declared.
     pub fn number(&self) -> u8
         ensures { result ≡ kind_number self.now }
     {
@@ -70,7 +69,6 @@ impl AsmKind {
             AsmKind::MissingSymbol { .. } => 10,
             AsmKind::NotInIsa => 11,
             AsmKind::BadRegion => 12,
-            AsmKind::NoMemory => 13,
         }
     }
 }
@@ -87,16 +85,12 @@ pub fn kind_of_fault(fault: LineFault) -> AsmKind
     }
 }
 
-impl From<NoMemory> for AsmRefusal {
-    ghost use Rattle.std.specs.Prelude.{◌≡◌};
-    ghost use Rattle.rvs_asm.specs.Refusals.{no_memory};
+impl From<AsmRefusal> for Fault<AsmRefusal> {
+    ghost use Rattle.rvs_fault.specs.declared.faults.Fault.TheVariants.{Refused};
 
-    ghost from_gives = { λ _ refusal. refusal ≡ no_memory };
+    ghost from_gives = { λ refusal fault. fault ≡ Refused refusal };
 
-    fn from(_: NoMemory) -> Self {
-        AsmRefusal {
-            line: 0,
-            kind: AsmKind::NoMemory,
-        }
+    fn from(refusal: AsmRefusal) -> Self {
+        Fault::Refused(refusal)
     }
 }

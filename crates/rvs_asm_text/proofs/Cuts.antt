@@ -29,13 +29,7 @@ parts_after (Some rest) = parts rest
 
 pub parts-cut : (cs : List ℕ) → parts cs ≡ before 44 cs ∷ parts_after (after 44 cs)
 parts-cut [] = refl
-parts-cut (c ∷ cs) = turn (c == 44) (parts cs) (parts-cut cs)
-  where
-    turn : (b : Bool) (ls : List (List ℕ)) → ls ≡ before 44 cs ∷ parts_after (after 44 cs)
-        → cond b ([] ∷ parts cs) (onto_first c ls)
-        ≡ cond b [] (c ∷ before 44 cs) ∷ parts_after (cond b (Some cs) (after 44 cs))
-    turn true ls e = refl
-    turn false ls e = ap (onto_first c) e
+parts-cut (c ∷ cs) = grind (arith, (parts-cut cs))
 
 -- the same at a front of a text, by its last byte
 trim_end-take : (cs : List ℕ) (k : ℕ) → k < length cs → trim_end (take (suc k) cs)
@@ -50,31 +44,18 @@ one_less n h = omega arith
 
 pub trim_step : (cs : List ℕ) (n : ℕ) → 0 < n → n ≤ length cs
     → is_blank (get_or cs (n - 1) 0) ≡ true → trim_end (take n cs) ≡ trim_end (take (n - 1) cs)
-trim_step cs n p h b =
-    ap (λ m. trim_end (take m cs)) (one_less n p)
-    ∙ trim_end-take cs (n - 1) (omega arith)
-    ∙ ap (λ t. cond t (trim_end (take (n - 1) cs)) (take (suc (n - 1)) cs)) b
+trim_step cs n p h b = grind (arith, one_less, trim_end-take)
 
 pub trim_stop : (cs : List ℕ) (n : ℕ) → 0 < n → n ≤ length cs
     → is_blank (get_or cs (n - 1) 0) ≡ false → trim_end (take n cs) ≡ take n cs
-trim_stop cs n p h b =
-    ap (λ m. trim_end (take m cs)) (one_less n p)
-    ∙ trim_end-take cs (n - 1) (omega arith)
-    ∙ ap (λ t. cond t (trim_end (take (n - 1) cs)) (take (suc (n - 1)) cs)) b
-    ∙ ap (λ m. take m cs) (sym (one_less n p))
+trim_stop cs n p h b = grind (arith, one_less, trim_end-take)
 
 pub operands_left-cut : (t : List ℕ)
     → operands_left (Some t) ≡ trim (before 44 t) ∷ operands_left (after 44 t)
-operands_left-cut t = ap trim_all (parts-cut t) ∙ turn (after 44 t)
-  where
-    turn : (o : Option (List ℕ))
-        → trim_all (before 44 t ∷ parts_after o) ≡ trim (before 44 t) ∷ operands_left o
-    turn None = refl
-    turn (Some rest) = refl
+operands_left-cut t = grind (arith, parts-cut)
 
 length-onto_first : (c : ℕ) (cs : List ℕ) → length (onto_first c (parts cs)) ≡ length (parts cs)
-length-onto_first c cs =
-    ap (λ ls. length (onto_first c ls)) (parts-cut cs) ∙ ap length (sym (parts-cut cs))
+length-onto_first c cs = simp parts-cut
 
 length-parts : (cs : List ℕ) → length (parts cs) ≡ count_by (λ c. c == 44) cs + 1
 length-parts [] = refl

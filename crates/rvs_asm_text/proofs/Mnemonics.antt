@@ -1,6 +1,6 @@
 -- Mnemonics are ASCII.
-use Rattle.std.proofs.Common.{◌≡◌, ℕ, ◌<◌, Bool, true, false, List, [], ◌∷◌, Some, None, refl}
-use Rattle.std.proofs.Common.{ap, ◌∙◌, arith, lit<, zero, suc, cond, subst}
+use Rattle.std.proofs.Common.{◌≡◌, ℕ, ◌<◌, Bool, true, false, List, [], ◌∷◌, None, refl}
+use Rattle.std.proofs.Common.{arith, lit<, zero, suc, subst}
 use Rattle.std.specs.Prelude.{nat_lt}
 use Rattle.std.specs.List.{list_all, find}
 use Rattle.std.specs.Str.{bytes_eq, IsAscii, IsUtf8}
@@ -9,13 +9,11 @@ use Rattle.std.proofs.lemmas.Slice.Eq.{bytes_eq-Decides}
 use Rattle.std.proofs.lemmas.Bool.Decides.{nat_tests}
 use Rattle.std.proofs.lemmas.Bool.{and_parts}
 use Rattle.rvs_insn.specs.declared.op.Op.{Op}
-use Rattle.rvs_insn.specs.declared.op.Op.TheVariants.{Lui}
 use Rattle.rvs_insn.specs.Table.{row, all_ops}
 use Rattle.rvs_insn.specs.Names.{op_of_name}
 
 names_low : (op : Op) → list_all (λ c. nat_lt c 128) (row op).name ≡ true
-names_low Lui = refl
-names_low _ = refl
+names_low op = grind arith
 
 below_128 : (c : ℕ) → nat_lt c 128 ≡ true → c < 128
 below_128 c h = grind (arith, nat_tests)
@@ -41,8 +39,7 @@ differs op name no_text false e = refl
 none_found : (ops : List Op) (test : Op → Bool) → ((op : Op) → test op ≡ false)
     → find test ops ≡ None
 none_found [] test h = refl
-none_found (o ∷ ops) test h =
-    ap (λ b. cond b (Some o) (find test ops)) (h o) ∙ none_found ops test h
+none_found (o ∷ ops) test h = grind (arith, (none_found ops test h))
 
 pub unnamed : (name : List ℕ) → (IsUtf8 name → ⊥) → op_of_name name ≡ None
 unfolding op_of_name

@@ -1,6 +1,6 @@
 -- Symbols are ASCII.
 use Rattle.std.proofs.Common.{◌≡◌, ℕ, zero, suc, ◌<◌, lit<, true, List, [], ◌∷◌}
-use Rattle.std.proofs.Common.{arith}
+use Rattle.std.proofs.Common.{arith, rules}
 use Rattle.std.specs.List.{list_all}
 use Rattle.std.specs.Str.{IsAscii, IsUtf8}
 use Rattle.std.proofs.lemmas.Str.{IsUtf8-from_ascii}
@@ -16,17 +16,12 @@ continues_low c h = grind (arith, nat_tests)
 
 rest_ascii : (cs : List ℕ) → list_all continues_symbol cs ≡ true → IsAscii cs
 rest_ascii [] h i = lit< tt
-rest_ascii (c ∷ cs) h zero =
-    continues_low c (and_parts (continues_symbol c) (list_all continues_symbol cs) h).0
+rest_ascii (c ∷ cs) h zero = grind (arith, continues_low, and_parts)
 rest_ascii (c ∷ cs) h (suc i) =
     rest_ascii cs (and_parts (continues_symbol c) (list_all continues_symbol cs) h).1 i
 
 symbol_ascii : (cs : List ℕ) → is_symbol cs ≡ true → IsAscii cs
-symbol_ascii [] h i = lit< tt
-symbol_ascii (c ∷ cs) h zero =
-    begins_low c (and_parts (begins_symbol c) (list_all continues_symbol cs) h).0
-symbol_ascii (c ∷ cs) h (suc i) =
-    rest_ascii cs (and_parts (begins_symbol c) (list_all continues_symbol cs) h).1 i
+symbol_ascii cs h = search (rules, begins_low, and_parts, rest_ascii)
 
 pub symbol_utf8 : (cs : List ℕ) → is_symbol cs ≡ true → IsUtf8 cs
 symbol_utf8 cs h = IsUtf8-from_ascii cs (symbol_ascii cs h)

@@ -1,13 +1,12 @@
 -- Putting piece after piece.
-use Rattle.std.proofs.Common.{◌≡◌, ℕ, List, ◌++◌, take, drop, Option, Some, None, refl, sym, ap}
-use Rattle.std.proofs.Common.{◌∙◌}
+use Rattle.std.proofs.Common.{◌≡◌, ℕ, List, ◌++◌, take, drop, Option}
+use Rattle.std.proofs.Common.{arith, rules}
 use Rattle.std.proofs.lemmas.List.{append_assoc, take-append-drop}
 use Rattle.rvs_base.specs.Sink.{appended}
 
 pub appended-appended : (old : Option (List ℕ)) (a b : List ℕ)
     → appended (appended old a) b ≡ appended old (a ++ b)
-appended-appended None a b = refl
-appended-appended (Some bytes) a b = ap Some (append_assoc bytes a b)
+appended-appended old a b = search (rules, append_assoc)
 
 -- of these bytes a front was put, and this is left
 pub record HasPut (bytes left : List ℕ) (old new : Option (List ℕ)) : Type 0 where
@@ -19,10 +18,5 @@ pub record HasPut (bytes left : List ℕ) (old new : Option (List ℕ)) : Type 0
 pub HasPut-more : {bytes left : List ℕ} {old mid new : Option (List ℕ)} (n : ℕ)
     → HasPut bytes left old mid → new ≡ appended mid (take n left)
     → HasPut bytes (drop n left) old new
-HasPut-more {left = left} {old = old} n h more = record {
-  front = h.front ++ take n left;
-  split = h.split ∙ ap (λ rest. h.front ++ rest) (sym (take-append-drop n left))
-      ∙ sym (append_assoc h.front (take n left) (drop n left));
-  put = more ∙ ap (λ mid. appended mid (take n left)) h.put
-      ∙ appended-appended old h.front (take n left);
-}
+HasPut-more {left = left} {old = old} n h more =
+    grind (arith, take-append-drop, append_assoc, appended-appended)

@@ -1,11 +1,11 @@
 -- Looking up a file in memory, and changing it.
 use Rattle.std.proofs.Common.{◌≡◌, ℕ, ◌<◌, ◌≤◌, suc, zero, Bool, true, false, cond, List, [], ◌∷◌}
-use Rattle.std.proofs.Common.{◌++◌, length, set, get_or, Option, Some, None, refl, sym, ap, ◌∙◌}
-use Rattle.std.proofs.Common.{arith, nat_lt, bytes_eq, if◌then◌else◌}
+use Rattle.std.proofs.Common.{◌++◌, length, set, get_or, Option, Some, None, refl}
+use Rattle.std.proofs.Common.{arith, nat_lt, bytes_eq, if◌then◌else◌, rules}
 use Rattle.std.specs.List.{position, position_or_len}
 use Rattle.std.proofs.lemmas.List.Sums.{fails_before_first}
 use Rattle.std.proofs.lemmas.List.Quantifiers.{position-Some}
-use Rattle.std.proofs.lemmas.Bool.Decides.{nat_tests, same_from_decides, Decides-like}
+use Rattle.std.proofs.lemmas.Bool.Decides.{nat_tests, same_from_decides}
 use Rattle.std.proofs.lemmas.Slice.Eq.{bytes_eq-Decides}
 use Rattle.std.specs.Prelude.{not}
 use Rattle.rvs_base.specs.Host.{with_file, with_left}
@@ -53,45 +53,31 @@ held_at (file ∷ files) name (suc i) d within here before =
 
 pub held-Some : (files : List File) (name : List ℕ) (i : ℕ)
     → position (is_named name) files ≡ Some i → held files name ≡ Some (get_or files i ([], [])).1
-held-Some files name i found =
-    let (within, here, before) = position-Some (is_named name) files i ([], []) found in
-    held_at files name i ([], []) within here before
+held-Some files name i found = grind (arith, position-Some, held_at)
 
 bytes_eq-turned : (xs ys : List ℕ) → bytes_eq xs ys ≡ bytes_eq ys xs
-bytes_eq-turned xs ys = same_from_decides (bytes_eq xs ys) (bytes_eq ys xs) (bytes_eq-Decides xs ys)
-    (Decides-like (bytes_eq ys xs) (λ p. sym p) (λ p. sym p) (bytes_eq-Decides ys xs))
+bytes_eq-turned xs ys = grind (arith, same_from_decides, bytes_eq, bytes_eq-Decides)
 
 same_choice : (t u v : Bool) (a b c : Option (List ℕ)) → u ≡ t → v ≡ t
     → (if u then a else c) ≡ (if t then a else if v then b else c)
-same_choice true u v a b c p q = rw p refl
-same_choice false u v a b c p q = rw (p, q) refl
+same_choice t u v a b c p q = grind arith
 
 -- a file of the name is replaced
 replaced : (files : List File) (file : File) (name bytes other : List ℕ) → is_named name file ≡ true
     → held ((name, bytes) ∷ files) other ≡ with_file name bytes (held (file ∷ files)) other
 replaced files file name bytes other here =
-    let same : file.0 ≡ name = (bytes_eq-Decides file.0 name).0 here in
-    let turned = bytes_eq-turned name other in
-    same_choice (bytes_eq other name) (bytes_eq name other) (bytes_eq file.0 other) (Some bytes)
-    (Some file.1) (held files other) turned (ap (λ n. bytes_eq n other) same ∙ turned)
+    grind (arith, bytes_eq-Decides, bytes_eq-turned, same_choice, bytes_eq)
 
 later_choice : (t v : Bool) (a b c s : Option (List ℕ)) → (v ≡ true → t ≡ true → ⊥)
     → s ≡ (if t then a else c) → (if v then b else s) ≡ (if t then a else if v then b else c)
-later_choice true true a b c s apart p = absurd (apart refl refl)
-later_choice true false a b c s apart p = p
-later_choice false true a b c s apart p = refl
-later_choice false false a b c s apart p = p
+later_choice t v a b c s apart p = grind arith
 
 -- a file of another name stands before the change
 behind : (files changed : List File) (file : File) (name bytes other : List ℕ)
     → is_named name file ≡ false → held changed other ≡ with_file name bytes (held files) other
     → held (file ∷ changed) other ≡ with_file name bytes (held (file ∷ files)) other
 behind files changed file name bytes other differs so_far =
-    let apart : bytes_eq file.0 other ≡ true → bytes_eq other name ≡ true → ⊥ = λ p q. no_both
-    differs ((bytes_eq-Decides file.0 name).1
-    ((bytes_eq-Decides file.0 other).0 p ∙ (bytes_eq-Decides other name).0 q)) in
-    later_choice (bytes_eq other name) (bytes_eq file.0 other) (Some bytes) (Some file.1)
-    (held files other) (held changed other) apart so_far
+    grind (arith, bytes_eq, no_both, bytes_eq-Decides, later_choice)
 
 -- the file at place i, the first that has the name, is replaced
 set_at : (files : List File) (name bytes : List ℕ) (i : ℕ) (d : File) → i < length files
@@ -100,8 +86,7 @@ set_at : (files : List File) (name bytes : List ℕ) (i : ℕ) (d : File) → i 
     → (other : List ℕ)
     → held (set files i (name, bytes)) other ≡ with_file name bytes (held files) other
 set_at [] name bytes i d within here before other = absurd (omega (arith, within))
-set_at (file ∷ files) name bytes zero d within here before other =
-    replaced files file name bytes other here
+set_at (file ∷ files) name bytes zero d within here before other = grind (arith, replaced)
 set_at (file ∷ files) name bytes (suc i) d within here before other =
     behind files (set files i (name, bytes)) file name bytes other (before 0 (omega arith)) (set_at
     files name bytes i d (omega (arith, within)) here
@@ -136,14 +121,12 @@ abbrev nothing : Option (List ℕ)
 nothing = None
 
 none_left : (t : Bool) → nothing ≡ (if t then nothing else nothing)
-none_left true = refl
-none_left false = refl
+none_left t = grind arith
 
 -- the file is taken away
 taken_choice : (t v : Bool) (b c s : Option (List ℕ)) → v ≡ t → s ≡ (if t then None else c)
     → s ≡ (if t then None else if v then b else c)
-taken_choice true v b c s same p = p
-taken_choice false v b c s same p = rw same p
+taken_choice t v b c s same p = grind arith
 
 -- the files of the name are taken away
 without_head : (file : File) (files : List File) (name other : List ℕ) (b : Bool)
@@ -151,17 +134,7 @@ without_head : (file : File) (files : List File) (name other : List ℕ) (b : Bo
     → held (without name files) other ≡ with_left name None (held files) other
     → held (cond (not b) (file ∷ without name files) (without name files)) other
     ≡ with_left name None (held (file ∷ files)) other
-without_head file files name other true here so_far =
-    let same : file.0 ≡ name = (bytes_eq-Decides file.0 name).0 here in
-    taken_choice (bytes_eq other name) (bytes_eq file.0 other) (Some file.1) (held files other)
-    (held (without name files) other)
-    (ap (λ n. bytes_eq n other) same ∙ bytes_eq-turned name other) so_far
-without_head file files name other false differs so_far =
-    let apart : bytes_eq file.0 other ≡ true → bytes_eq other name ≡ true → ⊥ = λ p q. no_both
-    differs ((bytes_eq-Decides file.0 name).1
-    ((bytes_eq-Decides file.0 other).0 p ∙ (bytes_eq-Decides other name).0 q)) in
-    later_choice (bytes_eq other name) (bytes_eq file.0 other) None (Some file.1) (held files other)
-    (held (without name files) other) apart so_far
+without_head file files name other b here so_far = search rules
 
 pub held-without : (files : List File) (name other : List ℕ)
     → held (without name files) other ≡ with_left name None (held files) other

@@ -1,5 +1,5 @@
 -- Hexadecimal digits are ASCII.
-use Rattle.std.proofs.Common.{◌≡◌, ℕ, ◌/◌, ◌%◌, ◌^◌, ◌<◌, List, [], ◌∷◌, map, get_or, length, zero}
+use Rattle.std.proofs.Common.{◌≡◌, ℕ, ◌<◌, List, [], ◌∷◌, map, get_or, length, zero}
 use Rattle.std.proofs.Common.{suc, refl, arith}
 use Rattle.std.proofs.lemmas.Bool.Decides.{nat_tests}
 use Rattle.rvs_base.specs.Number.{hex_digit_of, hex_digit_at, hex_word_of}
@@ -8,8 +8,7 @@ hex_digit_of-ascii : (d : ℕ) → d < 16 → hex_digit_of d < 128
 hex_digit_of-ascii d h = grind (arith, nat_tests)
 
 hex_digit_at-ascii : (word place : ℕ) → hex_digit_at word place < 128
-hex_digit_at-ascii word place = let h : word / 16 ^ place % 16 < 16 = omega arith in
-    hex_digit_of-ascii (word / 16 ^ place % 16) h
+hex_digit_at-ascii word place = grind (arith, hex_digit_of-ascii)
 
 digits-ascii : (word : ℕ) (places : List ℕ) (i : ℕ)
     → get_or (map (hex_digit_at word) places) i 0 < 128

@@ -1,12 +1,11 @@
 -- What is printed in digits is read as the number that it prints.
-use Rattle.std.proofs.Common.{◌≡◌, ℕ, ◌/◌, ◌%◌, ◌^◌, ◌<◌, Bool, true, false, cond, ◌&&◌, List, []}
-use Rattle.std.proofs.Common.{◌∷◌, length, Some, None, nat_lt, arith, refl, ap, ◌∙◌}
+use Rattle.std.proofs.Common.{◌≡◌, ℕ, ◌/◌, ◌%◌, ◌^◌, ◌<◌, Bool, true, cond, ◌&&◌, List, []}
+use Rattle.std.proofs.Common.{◌∷◌, length, Some, None, nat_lt, arith, refl, ap, ◌∙◌, rules}
 use Rattle.std.specs.List.{list_all}
 use Rattle.std.specs.Char.{digit_value, is_digit}
 use Rattle.std.specs.Fmt.{decimal}
 use Rattle.std.specs.Str.Parse.{AllDigits, digits_value}
 use Rattle.std.proofs.lemmas.Bool.{lt-ltb}
-use Rattle.std.proofs.lemmas.Bool.Decides.{nat_tests}
 use Rattle.std.proofs.lemmas.Fmt.{decimal_is_IsNumeral}
 use Rattle.rvs_base.specs.Number.{hex_digit_of, hex_word_of}
 use Rattle.rvs_base.specs.Digits.{digits_of}
@@ -18,9 +17,7 @@ digits_pass radix (d ∷ ds) h = rw (lt-ltb (digit_value d) radix h.0) (digits_p
 
 both : (some all : Bool) (v : ℕ) → some ≡ true → all ≡ true
     → cond (some && all) (Some v) None ≡ Some v
-both true true v p q = refl
-both true false v p q = cc
-both false all v p q = cc
+both some all v p q = grind arith
 
 -- one or more digits spell their value
 pub digits_of-value : (radix : ℕ) (ds : List ℕ) → 0 < length ds → AllDigits radix ds
@@ -42,11 +39,7 @@ pub record IsHex (c d : ℕ) : Type 0 where
   pub plain : 47 < c
 
 pub hex_digit : (d : ℕ) → d < 16 → IsHex (hex_digit_of d) d
-hex_digit d h = record {
-  digit = grind (arith, nat_tests);
-  value = grind (arith, nat_tests);
-  plain = grind (arith, nat_tests);
-}
+hex_digit d h = search rules
 
 pub digits_of-hex_word : (w : ℕ) → w < 2 ^ 32 → digits_of 16 (hex_word_of w) ≡ Some w
 unfolding digits_of hex_word_of

@@ -1,7 +1,7 @@
 -- Digits, taken one after another.
 use Rattle.std.proofs.Common.{◌≡◌, ℕ, ◌+◌, ◌-◌, ◌*◌, ◌^◌, ◌<◌, ◌≤◌, Bool, true, false, cond, ◌&&◌}
 use Rattle.std.proofs.Common.{List, [], ◌∷◌, length, Option, Some, None, SomeIff, nat_lt}
-use Rattle.std.proofs.Common.{option_and_then, IfSome, arith, refl, ap, ◌∙◌, sym, lit<}
+use Rattle.std.proofs.Common.{option_and_then, IfSome, arith, refl, ap}
 use Rattle.std.proofs.Math.Nat.{mul-le-mul_left, pow-le-pow_left, pow-le-pow_right}
 use Rattle.std.specs.List.{list_all}
 use Rattle.std.specs.Char.{digit_value, is_digit}
@@ -17,8 +17,7 @@ spelled_after limit radix n text =
     (Some (digits_value_after radix n text)) None
 
 both_false : (a b : Bool) → b ≡ false → (a && b) ≡ false
-both_false true b e = e
-both_false false b e = refl
+both_false a b e = grind arith
 
 more : (limit radix n c : ℕ) (cs : List ℕ) → is_digit c radix ≡ true
     → spelled_after limit radix n (c ∷ cs)
@@ -39,12 +38,7 @@ grows radix n (c ∷ cs) h =
 
 too_large : (limit radix n : ℕ) (cs : List ℕ) → 1 ≤ radix → limit ≤ n
     → spelled_after limit radix n cs ≡ None
-too_large limit radix n cs h l =
-    let large : nat_lt (digits_value_after radix n cs) limit ≡ false =
-    le-ltb (digits_value_after radix n cs) limit (omega (arith, grows radix n cs h)) in
-    let e = both_false (list_all (λ c. is_digit c radix) cs)
-    (nat_lt (digits_value_after radix n cs) limit) large in
-    ap (λ b. cond b (Some (digits_value_after radix n cs)) None) e
+too_large limit radix n cs h l = grind (arith, nat_lt, le-ltb, grows, both_false)
 
 not_below : (m limit : ℕ) → (m < limit → ⊥) → limit ≤ m
 not_below m limit h = omega arith
@@ -53,21 +47,12 @@ not_below m limit h = omega arith
 pub spelled-more : (limit radix n c m : ℕ) (cs : List ℕ) → SomeIff (Some m)
     ((digit_value c < radix) × (n * radix + digit_value c < limit)) (n * radix + digit_value c)
     → spelled_after limit radix m cs ≡ spelled_after limit radix n (c ∷ cs)
-spelled-more limit radix n c m cs h =
-    let digit : is_digit c radix ≡ true = lt-ltb (digit_value c) radix h.0.0 in
-    rw h.1 (sym (more limit radix n c cs digit))
+spelled-more limit radix n c m cs h = grind (arith, lt-ltb, more)
 
 pub spelled-none : (limit radix n c : ℕ) (cs : List ℕ) → 1 ≤ radix
     → ((digit_value c < radix) × (n * radix + digit_value c < limit) → ⊥)
     → spelled_after limit radix n (c ∷ cs) ≡ None
-spelled-none limit radix n c cs r h =
-    elim (is_digit c radix) as (λ v. is_digit c radix ≡ v
-    → spelled_after limit radix n (c ∷ cs) ≡ None) [
-      | true ↦ λ e. more limit radix n c cs e
-          ∙ too_large limit radix (n * radix + digit_value c) cs r (not_below
-          (n * radix + digit_value c) limit (λ t. h (ltb-true (digit_value c) radix e, t)))
-      | false ↦ λ e. stops limit radix n c cs e
-    ] refl
+spelled-none limit radix n c cs r h = grind (arith, more, too_large, not_below, ltb-true, stops)
 
 pub spelled-end : (limit radix n : ℕ) → n < limit → spelled_after limit radix n [] ≡ Some n
 spelled-end limit radix n h = ap (λ b. cond b (Some n) None) (lt-ltb n limit h)
@@ -75,9 +60,7 @@ spelled-end limit radix n h = ap (λ b. cond b (Some n) None) (lt-ltb n limit h)
 begins : (some all : Bool) (v limit : ℕ) → some ≡ true
     → option_and_then (below limit) (cond (some && all) (Some v) None)
     ≡ cond (all && nat_lt v limit) (Some v) None
-begins true true v limit e = refl
-begins true false v limit e = refl
-begins false all v limit e = cc
+begins some all v limit e = grind arith
 
 pub spelled-all : (limit radix : ℕ) (text : List ℕ) → 0 < length text
     → number_below limit radix text ≡ spelled_after limit radix 0 text
@@ -92,8 +75,7 @@ number_below-empty limit radix = refl
 
 -- ---- few digits
 both_true : (a b : Bool) → (a && b) ≡ true → (a ≡ true) × (b ≡ true)
-both_true true b e = (refl, e)
-both_true false b e = cc
+both_true a b e = grind arith
 
 all_digits : (radix : ℕ) (cs : List ℕ) → list_all (λ c. is_digit c radix) cs ≡ true
     → AllDigits radix cs
@@ -106,16 +88,11 @@ pub few_fit : (radix most : ℕ) (text : List ℕ) → 2 ≤ radix → radix ≤
     → length text ≤ most → list_all (λ c. is_digit c radix) text ≡ true
     → (digits_value radix text < radix ^ most) × (digits_value radix text < 2 ^ 64 - 1)
 few_fit radix most text low high few short e =
-    let value = digits_value-lt radix text (all_digits radix text e) in
-    let longer : radix ^ length text ≤ radix ^ most = pow-le-pow_right (omega arith) short in
-    let left : radix ^ most ≤ 16 ^ most = pow-le-pow_left high most in
-    let right : 16 ^ most ≤ 16 ^ 15 = pow-le-pow_right (lit< tt) few in
-    (omega (arith, value, longer), omega (arith, value, longer, left, right))
+    grind (arith, digits_value-lt, all_digits, pow-le-pow_right, pow-le-pow_left)
 
 kept : (b : Bool) (v limit : ℕ) → (b ≡ true → v < limit)
     → option_and_then (below limit) (cond b (Some v) None) ≡ cond b (Some v) None
-kept true v limit h = ap (λ t. cond t (Some v) None) (lt-ltb v limit (h refl))
-kept false v limit h = refl
+kept b v limit h = grind arith
 
 -- so many digits are below every limit of 64 bits
 pub few_are_below : (radix most : ℕ) (text : List ℕ) → 2 ≤ radix → radix ≤ 16 → most ≤ 15
@@ -129,8 +106,7 @@ few_are_below radix most text low high few short =
 
 small_by : (b : Bool) (v limit : ℕ) → (b ≡ true → v < limit)
     → IfSome (cond b (Some v) None) (λ n. n < limit)
-small_by true v limit h = h refl
-small_by false v limit h = tt
+small_by b v limit h = grind arith
 
 pub few_are_small : (radix most : ℕ) (text : List ℕ) → 2 ≤ radix → radix ≤ 16 → most ≤ 15
     → length text ≤ most → IfSome (digits_of radix text) (λ n. n < radix ^ most)

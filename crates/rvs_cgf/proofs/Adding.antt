@@ -1,12 +1,13 @@
 -- What each entry of a node adds to the points.
 use Rattle.std.proofs.Common.{◌≡◌, ℕ, zero, suc, ◌+◌, ◌<◌, ◌≤◌, Bool, true, false, not, ◌&&◌, List}
 use Rattle.std.proofs.Common.{[], ◌∷◌, Ok, Err, refl, subst, arith, bytes_eq, codes}
+use Rattle.std.proofs.lemmas.Bool.{and_from}
 use Rattle.std.specs.Prelude.{nat_le, if◌then◌else◌}
 use Rattle.rvs_insn.specs.Isa.{Isa}
 use Rattle.rvs_tree.specs.Data.{Data, Pairs, own_pairs, is_map}
 use Rattle.rvs_abstract.specs.declared.families.Families.{Families}
 use Rattle.rvs_abstract.specs.Calls as calls
-use Rattle.rvs_cgf.specs.Keys.{is_printable}
+use Rattle.rvs_points.specs.Keys.{is_printable}
 use Rattle.rvs_cgf.specs.Groups.{Meaning, Point, Skipped, Said, means, nothing, wrong, says, admits}
 use Rattle.rvs_cgf.specs.Groups.{EntryNames, at_node, at_key, Refusal, Found, refused, ◌>>=◌, ◌>>◌}
 use Rattle.rvs_cgf.specs.Groups.{holds, Taken, same_kind, point, has, with_point, add, with_skipped}
@@ -16,13 +17,13 @@ use Rattle.rvs_cgf.specs.Groups.{kth, count_of, add_kth, values, add_pair, with_
 use Rattle.rvs_cgf.specs.Groups.{abstract_entry}
 use Rattle.rvs_cgf.specs.Groups.{under, abstract_node, holds_families, entry_of, all_entries}
 use Rattle.rvs_cgf.specs.Groups.{skipped_entry, each_skipped, passed_over}
-use Rattle.rvs_cgf.specs.Valid.{IsMeant}
-use Rattle.rvs_cgf.specs.declared.group.Kind.{Kind}
-use Rattle.rvs_cgf.specs.declared.group.Kind.TheVariants as kind
-use Rattle.rvs_cgf.specs.declared.refusal.CgfKind.{CgfKind}
-use Rattle.rvs_cgf.specs.declared.refusal.CgfKind.TheVariants as fault
-use Rattle.rvs_cgf.proofs.SameKinds.{kind-is}
-use Rattle.rvs_cgf.proofs.Distinct.{and-left, and-right, and-is}
+use Rattle.rvs_points.specs.Valid.{IsMeant}
+use Rattle.rvs_points.specs.declared.group.Kind.{Kind}
+use Rattle.rvs_points.specs.declared.group.Kind.TheVariants as kind
+use Rattle.rvs_points.specs.declared.refusal.CgfKind.{CgfKind}
+use Rattle.rvs_points.specs.declared.refusal.CgfKind.TheVariants as fault
+use Rattle.rvs_points.proofs.SameKinds.{kind-is}
+use Rattle.rvs_points.proofs.Distinct.{and-left, and-right}
 use Rattle.rvs_cgf.proofs.FamilyKeys.{Small, is_sized, call-size, pairs-size, value-small}
 use Rattle.rvs_cgf.proofs.FamilyKeys.{value_meant, pair_meant}
 
@@ -92,7 +93,7 @@ skip-kept : (P : Taken → Type 0) (Q : Point → Type 0) → Kept P Q
 skip-kept P Q k place n s t u h e =
     let note : Skipped = record { node = place.node; key = place.key } in
     subst P (ok-is (with_skipped note t) u e)
-    (k.passed note t (and-is (is_printable place.node) (is_printable place.key) n s) h)
+    (k.passed note t (and_from (is_printable place.node) (is_printable place.key) n s) h)
 
 pub each-kept : {S : Type 0} (P : S → Type 0) (f : List ℕ → Data → S → Found S)
     → ((key : List ℕ) (d : Data) (t u : S) → P t → f key d t ≡ Ok u → P u)

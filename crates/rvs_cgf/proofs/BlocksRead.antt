@@ -4,19 +4,20 @@ use Rattle.std.proofs.Common.{All, refl, sym, ap, subst, ◌∙◌, arith, appen
 use Rattle.std.specs.Prelude.{if◌then◌else◌}
 use Rattle.std.specs.List.{list_any, list_all}
 use Rattle.std.proofs.lemmas.List.Elements.{All-head, All-tail}
+use Rattle.rvs_cross.proofs.Members.{by_test}
 use Rattle.rvs_insn.specs.Isa.{Isa}
 use Rattle.rvs_insn.specs.Names.{is_admitted_op}
 use Rattle.rvs_insn.specs.declared.op.Op.{Op}
 use Rattle.rvs_cgf.specs.Groups.{Meaning, op_is, reg_is, regs, nums, window, Point, admits}
 use Rattle.rvs_cgf.specs.Groups.{same_kind, has, op_in, ops_of}
-use Rattle.rvs_cgf.specs.Valid.{are_distinct, IsMeant}
+use Rattle.rvs_points.specs.Valid.{are_distinct, IsMeant}
 use Rattle.rvs_cgf.specs.Spelled.{Block, block, joined, blocks, kinds_are_apart}
-use Rattle.rvs_cgf.specs.declared.group.Kind.{Kind}
-use Rattle.rvs_cgf.specs.declared.group.Kind.TheVariants as kind
-use Rattle.rvs_cgf.proofs.SameKinds.{kind-is}
-use Rattle.rvs_cgf.proofs.Distinct.{and-left, and-right, or-left, or-right, both-ways, if-yes}
-use Rattle.rvs_cgf.proofs.Distinct.{if-no, no}
-use Rattle.rvs_cgf.proofs.Saying.{said_by}
+use Rattle.rvs_points.specs.declared.group.Kind.{Kind}
+use Rattle.rvs_points.specs.declared.group.Kind.TheVariants as kind
+use Rattle.rvs_points.proofs.SameKinds.{kind-is}
+use Rattle.rvs_points.proofs.Distinct.{and-left, and-right, or-left, or-right, both-ways, if-yes}
+use Rattle.rvs_points.proofs.Distinct.{if-no, no}
+use Rattle.rvs_points.proofs.Saying.{said_by}
 use Rattle.rvs_cgf.proofs.Validity.{front-distinct, ops-append}
 use Rattle.rvs_cgf.proofs.PointsRead.{Reads, reads_by, ReadsAll}
 
@@ -133,14 +134,10 @@ under-none [] e = refl
 under-none (b ∷ bs) e = under-no b bs (or-left (same_kind b.kind kind.Mnemonic) _ e)
     ∙ under-none bs (or-right (same_kind b.kind kind.Mnemonic) _ e)
 
-pub cases : {G : Type 0} (b : Bool) → (b ≡ true → G) → (b ≡ false → G) → G
-cases true f g = f refl
-cases false f g = g refl
-
 pub under-short : (bs : List Block) → length (main_in bs) ≤ length (points_in bs)
 under-short [] = omega arith
 under-short (b ∷ bs) =
-    cases (same_kind b.kind kind.Mnemonic)
+    by_test (same_kind b.kind kind.Mnemonic)
     (λ e. omega (arith, ap length (under-yes b bs e), length-append b.points (points_in bs)))
     (λ e. omega
     (arith, ap length (under-no b bs e), under-short bs, length-append b.points (points_in bs)))
@@ -149,7 +146,7 @@ pub reads-under : (isa : Isa) (bs : List Block) → AllRead isa bs
     → ReadsAll isa kind.Mnemonic (main_in bs)
 reads-under isa [] h = tt
 reads-under isa (b ∷ bs) h =
-    cases (same_kind b.kind kind.Mnemonic)
+    by_test (same_kind b.kind kind.Mnemonic)
     (λ e. subst (ReadsAll isa kind.Mnemonic) (sym (under-yes b bs e)) (subst
     (λ (k : Kind). ReadsAll isa k b.points) (kind-is b.kind kind.Mnemonic e) h.0))
     (λ e. subst (ReadsAll isa kind.Mnemonic) (sym (under-no b bs e)) (reads-under isa bs h.1))
@@ -163,7 +160,7 @@ pub under-distinct : (bs : List Block) → are_distinct (points_in bs) ≡ true
     → are_distinct (main_in bs) ≡ true
 under-distinct [] d = refl
 under-distinct (b ∷ bs) d =
-    cases (same_kind b.kind kind.Mnemonic)
+    by_test (same_kind b.kind kind.Mnemonic)
     (λ e. ap are_distinct (under-yes b bs e) ∙ front-distinct b.points (points_in bs) d)
     (λ e. ap are_distinct (under-no b bs e)
     ∙ under-distinct bs (back-distinct b.points (points_in bs) d))
@@ -208,7 +205,7 @@ pub ops_under : (bs : List Block) → AllMeant bs → kinds_are_apart bs ≡ tru
     → ops_of (main_in bs) ≡ ops_of (points_in bs)
 ops_under [] h a = refl
 ops_under (b ∷ bs) h a =
-    cases (same_kind b.kind kind.Mnemonic)
+    by_test (same_kind b.kind kind.Mnemonic)
     (λ e. ap ops_of (under-yes b bs e) ∙ sym (append-nil (ops_of b.points))
     ∙ ap (λ xs. ops_of b.points ++ xs) (sym (no-ops-in bs h.1 (others-apart b bs e a)))
     ∙ sym (ops-append b.points (points_in bs)))

@@ -5,6 +5,7 @@ use Rattle.std.proofs.Common.{refl, sym, ap, ◌∙◌, arith}
 use Rattle.std.specs.Prelude.{ℤ, pos, negsuc, ◌+ℤ◌, ◌-ℤ◌, neg_ℤ, unsigned_abs, nat_le, nat_lt, ◌==◌}
 use Rattle.std.specs.Prelude.{int_lt, if◌then◌else◌}
 use Rattle.std.proofs.lemmas.Bool.Decides.{nat_tests}
+use Rattle.std.proofs.lemmas.Bool.{and_from}
 use Rattle.std.proofs.lemmas.Int.{ints}
 use Rattle.rvs_expr_text.specs.declared.lexeme.NumName.{NumName}
 use Rattle.rvs_expr_text.specs.declared.lexeme.NumName.TheVariants.{Rs1Val, Rs2Val}
@@ -25,11 +26,11 @@ use Rattle.rvs_abstract.specs.declared.family.Family.TheVariants.{Alternate, Edg
 use Rattle.rvs_abstract.specs.declared.call.AbstractRefusal.TheVariants.{UnknownFunction}
 use Rattle.rvs_abstract.proofs.Powers.{within_32, within_31, below_32, some_power}
 use Rattle.rvs_abstract.proofs.Roots.{root-small}
-use Rattle.rvs_cgf.specs.Keys.{is_skipped}
-use Rattle.rvs_cgf.specs.Says.{of_formula}
+use Rattle.rvs_points.specs.Keys.{is_skipped}
+use Rattle.rvs_points.specs.Says.{of_formula}
 use Rattle.rvs_cgf.specs.Groups.{nums, nothing, value_point, pair_point, pair_key}
-use Rattle.rvs_cgf.specs.Valid.{IsMeant}
-use Rattle.rvs_cgf.proofs.Distinct.{and-right, and-is, if-no}
+use Rattle.rvs_points.specs.Valid.{IsMeant}
+use Rattle.rvs_points.proofs.Distinct.{and-right, if-no}
 use Rattle.rvs_cgf.proofs.PlainKeys.{plain-shows, plain-read, key-plain, pair-plain}
 use Rattle.rvs_cgf.proofs.PairKeys.{pair-read}
 
@@ -225,7 +226,7 @@ one-sized None e = refl
 
 both-sized : (o p : Option Ranged) → sized_if o ≡ true → sized_if p ≡ true
     → sized (calls.both_sized o p) ≡ true
-both-sized (Some a) (Some b) e h = and-is (is_sized a) (is_sized b) e h
+both-sized (Some a) (Some b) e h = and_from (is_sized a) (is_sized b) e h
 both-sized (Some a) None e h = refl
 both-sized None p e h = refl
 

@@ -35,7 +35,7 @@ use Rattle.rvs_expr.specs.Parse.{parse, counted}
 use Rattle.rvs_expr.specs.Equation.{name_of, key_of, number_of, equation_of}
 use Rattle.rvs_expr.proofs.Decimals.{AllDigit, decimal-is, tokens-decimal}
 use Rattle.rvs_cgf.specs.Groups.{point, pair_key, pair_point, nums}
-use Rattle.rvs_cgf.specs.declared.group.Kind.TheVariants as kind
+use Rattle.rvs_points.specs.declared.group.Kind.TheVariants as kind
 
 if-true : {A : Type 0} (b : Bool) (x y : A) → b ≡ true → (if b then x else y) ≡ x
 if-true true x y e = refl

@@ -5,6 +5,7 @@ use Rattle.std.specs.Prelude.{ℤ, pos, negsuc, unsigned_abs, nat_le, ◌==◌, 
 use Rattle.std.specs.Fmt.{decimal, signed_decimal}
 use Rattle.std.specs.List.{list_any, list_all}
 use Rattle.std.proofs.lemmas.Bool.Decides.{nat_tests}
+use Rattle.std.proofs.lemmas.Bool.{and_from, and_right, or_from}
 use Rattle.std.proofs.lemmas.List.Folds.{list_all-append}
 use Rattle.rvs_expr_text.specs.Words.{is_digit}
 use Rattle.rvs_expr_text.specs.declared.lexeme.NumName.{NumName}
@@ -12,10 +13,10 @@ use Rattle.rvs_expr_text.specs.declared.lexeme.NumName.TheVariants.{Rs1Val, Rs2V
 use Rattle.rvs_expr.specs.Equation.{name_of, key_of}
 use Rattle.rvs_expr.proofs.Decimals.{AllDigit, decimal-is}
 use Rattle.rvs_abstract.specs.Calls.{is_letter, name_length, without_spaces}
-use Rattle.rvs_cgf.specs.Keys.{is_printable, is_skipped, is_left_out, begins, has_double, calls}
-use Rattle.rvs_cgf.specs.Keys.{has_call, is_operator_word}
+use Rattle.rvs_points.specs.Keys.{is_printable, is_skipped, is_left_out, begins, has_double, calls}
+use Rattle.rvs_points.specs.Keys.{has_call, is_operator_word}
 use Rattle.rvs_cgf.specs.Groups.{pair_key}
-use Rattle.rvs_cgf.proofs.Distinct.{and-left, and-right, and-is, and-last, or-fails, no}
+use Rattle.rvs_points.proofs.Distinct.{and-left, and-right, no}
 
 -- ---- bytes
 abbrev shows : ℕ → Bool
@@ -60,22 +61,22 @@ tail-plain c cs h = and-right (plain c) (list_all plain cs) h
 -- ---- texts of them
 pub plain-shows : (cs : List ℕ) → AllPlain cs → is_printable cs ≡ true
 plain-shows [] h = refl
-plain-shows (c ∷ cs) h = and-is (shows c) (is_printable cs) (head-plain c cs h).shown
+plain-shows (c ∷ cs) h = and_from (shows c) (is_printable cs) (head-plain c cs h).shown
     (plain-shows cs (tail-plain c cs h))
 
 plain-kept : (cs : List ℕ) → AllPlain cs → list_any is_left_out cs ≡ false
 plain-kept [] h = refl
-plain-kept (c ∷ cs) h = or-fails (is_left_out c) (list_any is_left_out cs) (head-plain c cs h).kept
+plain-kept (c ∷ cs) h = or_from (is_left_out c) (list_any is_left_out cs) (head-plain c cs h).kept
     (plain-kept cs (tail-plain c cs h))
 
 no-below : (cs : List ℕ) → AllPlain cs → has_double 60 cs ≡ false
 no-below [] h = refl
-no-below (c ∷ cs) h = or-fails ((c == 60) && begins 60 cs) (has_double 60 cs)
+no-below (c ∷ cs) h = or_from ((c == 60) && begins 60 cs) (has_double 60 cs)
     (ap (λ x. x && begins 60 cs) (head-plain c cs h).below_less) (no-below cs (tail-plain c cs h))
 
 no-above : (cs : List ℕ) → AllPlain cs → has_double 62 cs ≡ false
 no-above [] h = refl
-no-above (c ∷ cs) h = or-fails ((c == 62) && begins 62 cs) (has_double 62 cs)
+no-above (c ∷ cs) h = or_from ((c == 62) && begins 62 cs) (has_double 62 cs)
     (ap (λ x. x && begins 62 cs) (head-plain c cs h).above_less) (no-above cs (tail-plain c cs h))
 
 if-closed : (b : Bool) (xs ys : List ℕ) → begins 40 xs ≡ false → begins 40 ys ≡ false
@@ -97,26 +98,26 @@ drop-plain (suc n) (c ∷ cs) h = drop-plain n cs (tail-plain c cs h)
 no-calls : (c : ℕ) (cs : List ℕ) → AllPlain cs → calls c cs ≡ false
 no-calls c cs h =
     let n = name_length cs in
-    and-last (is_letter c)
+    and_right (is_letter c)
     (not (is_operator_word (take n cs)) && begins 40 (without_spaces (drop n cs)))
-    (and-last (not (is_operator_word (take n cs))) (begins 40 (without_spaces (drop n cs)))
+    (and_right (not (is_operator_word (take n cs))) (begins 40 (without_spaces (drop n cs)))
     (closed (drop n cs) (drop-plain n cs h)))
 
 no-call : (cs : List ℕ) (n : ℕ) → AllPlain cs → has_call n cs ≡ false
 no-call [] n h = refl
 no-call (c ∷ cs) (suc n) h = no-call cs n (tail-plain c cs h)
 no-call (c ∷ cs) zero h =
-    or-fails (calls c (c ∷ cs)) (has_call (name_length (c ∷ cs) - 1) cs) (no-calls c (c ∷ cs) h)
+    or_from (calls c (c ∷ cs)) (has_call (name_length (c ∷ cs) - 1) cs) (no-calls c (c ∷ cs) h)
     (no-call cs (name_length (c ∷ cs) - 1) (tail-plain c cs h))
 
 pub plain-read : (cs : List ℕ) → AllPlain cs → is_skipped cs ≡ false
 unfolding is_skipped
-plain-read cs h = or-fails _ _ (plain-kept cs h)
-    (or-fails _ _ (no-below cs h) (or-fails _ _ (no-above cs h) (no-call cs zero h)))
+plain-read cs h = or_from _ _ (plain-kept cs h)
+    (or_from _ _ (no-below cs h) (or_from _ _ (no-above cs h) (no-call cs zero h)))
 
 plain-append : (xs ys : List ℕ) → AllPlain xs → AllPlain ys → AllPlain (xs ++ ys)
 plain-append xs ys h k =
-    list_all-append plain xs ys ∙ and-is (list_all plain xs) (list_all plain ys) h k
+    list_all-append plain xs ys ∙ and_from (list_all plain xs) (list_all plain ys) h k
 
 -- ---- keys
 digit-shows : (c : ℕ) → is_digit c ≡ true → shows c ≡ true
@@ -132,16 +133,16 @@ no-open : (c : ℕ) → is_digit c ≡ true → (c == 40) ≡ false
 no-open c e = grind (arith, nat_tests)
 
 digit-plain : (c : ℕ) → is_digit c ≡ true → plain c ≡ true
-digit-plain c e = and-is (shows c) (not (is_left_out c) && marks c) (digit-shows c e)
-    (and-is (not (is_left_out c)) (marks c) (ap not (digit-kept c e))
-    (and-is (not (c == 40)) (not (c == 60) && not (c == 62)) (ap not (no-open c e))
-    (and-is (not (c == 60)) (not (c == 62)) (ap not (no-mark 60 c e (omega arith)))
+digit-plain c e = and_from (shows c) (not (is_left_out c) && marks c) (digit-shows c e)
+    (and_from (not (is_left_out c)) (marks c) (ap not (digit-kept c e))
+    (and_from (not (c == 40)) (not (c == 60) && not (c == 62)) (ap not (no-open c e))
+    (and_from (not (c == 60)) (not (c == 62)) (ap not (no-mark 60 c e (omega arith)))
     (ap not (no-mark 62 c e (omega arith))))))
 
 digits-plain : (ds : List ℕ) → AllDigit ds → AllPlain ds
 digits-plain [] h = refl
 digits-plain (d ∷ ds) h =
-    and-is (plain d) (list_all plain ds) (digit-plain d h.0) (digits-plain ds h.1)
+    and_from (plain d) (list_all plain ds) (digit-plain d h.0) (digits-plain ds h.1)
 
 number-plain : (z : ℤ) → unsigned_abs z ≤ 2 ^ 32 → AllPlain (signed_decimal z)
 number-plain (pos n) h = digits-plain (decimal n) (decimal-is n (omega arith)).digits

@@ -5,20 +5,18 @@ use Rattle.std.proofs.Common.{add-one, append_assoc}
 use Rattle.std.proofs.Math.Seq.{take-suc}
 use Rattle.std.specs.Prelude.{◌||◌, String}
 use Rattle.std.specs.BTreeSet.{BTreeSet, contains_text}
+use Rattle.rvs_points.proofs.Distinct.{or-assoc}
 use Rattle.rvs_cgf.specs.Groups.{has, is_point, same_kind}
-use Rattle.rvs_cgf.specs.PointView.{point_view}
-use Rattle.rvs_cgf.specs.PointKeys.{mark, AreKeysOf}
-use Rattle.rvs_cgf.specs.declared.group.Kind.{Kind}
-use Rattle.rvs_cgf.specs.declared.group.Point.{Point}
-use Rattle.rvs_cgf.proofs.SameKinds.{mark-same}
+use Rattle.rvs_points.specs.PointView.{point_view}
+use Rattle.rvs_points.specs.Kinds.{mark}
+use Rattle.rvs_cgf.specs.PointKeys.{AreKeysOf}
+use Rattle.rvs_points.specs.declared.group.Kind.{Kind}
+use Rattle.rvs_points.specs.declared.group.Point.{Point}
+use Rattle.rvs_points.proofs.SameKinds.{mark-same}
 
 or-false : (a : Bool) → (a || false) ≡ a
 or-false true = refl
 or-false false = refl
-
-or-assoc : (a b c : Bool) → (a || (b || c)) ≡ ((a || b) || c)
-or-assoc true b c = refl
-or-assoc false b c = refl
 
 has-more : (k : Kind) (key : List ℕ) (ps : List Point) (p : Point)
     → has k key (map point_view (ps ++ p ∷ []))

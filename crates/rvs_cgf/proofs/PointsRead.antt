@@ -4,6 +4,7 @@ use Rattle.std.proofs.Common.{◌++◌, length, Ok, refl, sym, ap, ◌∙◌, ar
 use Rattle.std.proofs.Common.{bytes_eq}
 use Rattle.std.specs.Prelude.{nat_le, if◌then◌else◌}
 use Rattle.std.proofs.lemmas.Bool.Decides.{nat_tests}
+use Rattle.std.proofs.lemmas.Bool.{and_from, and_right, or_from}
 use Rattle.rvs_insn.specs.Isa.{Isa}
 use Rattle.rvs_insn.specs.Names.{op_of_name}
 use Rattle.rvs_tree.specs.Data.{Data, scalar, sequence, mapping, Pairs, own_pairs, is_map}
@@ -11,21 +12,21 @@ use Rattle.rvs_tree.specs.Data.{is_scalar}
 use Rattle.rvs_expr.specs.Parse.{parse}
 use Rattle.rvs_cross.specs.Parse.{parse as parse_cross}
 use Rattle.rvs_abstract.specs.declared.families.Families.{Families}
-use Rattle.rvs_cgf.specs.Keys.{is_printable, is_skipped}
-use Rattle.rvs_cgf.specs.Says.{of_cross}
+use Rattle.rvs_points.specs.Keys.{is_printable, is_skipped}
+use Rattle.rvs_points.specs.Says.{of_cross}
 use Rattle.rvs_cgf.specs.Groups.{Meaning, Point, Skipped, Said, means, says, admits}
 use Rattle.rvs_cgf.specs.Groups.{EntryNames, at_key, Found, refused, ◌>>=◌, ◌>>◌, holds, Taken}
 use Rattle.rvs_cgf.specs.Groups.{same_kind, has, with_point, add, entries, for_each, abstract_key}
 use Rattle.rvs_cgf.specs.Groups.{is_shaped, under, add_said, add_entry, abstract_node}
 use Rattle.rvs_cgf.specs.Groups.{holds_families, entry_of, all_entries}
-use Rattle.rvs_cgf.specs.Valid.{are_distinct, IsMeant}
+use Rattle.rvs_points.specs.Valid.{are_distinct, IsMeant}
 use Rattle.rvs_cgf.specs.Spelled.{SpellsKeys}
-use Rattle.rvs_cgf.specs.declared.group.Kind.{Kind}
-use Rattle.rvs_cgf.specs.declared.group.Kind.TheVariants as kind
-use Rattle.rvs_cgf.specs.declared.refusal.CgfKind.{CgfKind}
-use Rattle.rvs_cgf.specs.declared.refusal.CgfKind.TheVariants as fault
-use Rattle.rvs_cgf.proofs.Distinct.{and-left, and-right, and-is, and-last, or-left, or-right}
-use Rattle.rvs_cgf.proofs.Distinct.{or-fails, if-no, no, has-append, point-sym}
+use Rattle.rvs_points.specs.declared.group.Kind.{Kind}
+use Rattle.rvs_points.specs.declared.group.Kind.TheVariants as kind
+use Rattle.rvs_points.specs.declared.refusal.CgfKind.{CgfKind}
+use Rattle.rvs_points.specs.declared.refusal.CgfKind.TheVariants as fault
+use Rattle.rvs_points.proofs.Distinct.{and-left, and-right, or-left, or-right}
+use Rattle.rvs_points.proofs.Distinct.{if-no, no, has-append, point-sym}
 use Rattle.rvs_cgf.proofs.Roles.{same-bytes}
 
 -- ---- choices
@@ -73,8 +74,8 @@ not-abstract k key m e false s = refl
 
 shaped-yes : (p : Point) (d : Data) → IsMeant p → is_scalar d ≡ true → is_shaped p.key d ≡ true
 shaped-yes p d m s =
-    and-is (is_printable p.key && is_scalar d) (not (bytes_eq p.key abstract_key))
-    (and-is (is_printable p.key) (is_scalar d) m.printable s)
+    and_from (is_printable p.key && is_scalar d) (not (bytes_eq p.key abstract_key))
+    (and_from (is_printable p.key) (is_scalar d) m.printable s)
     (ap not (not-abstract p.kind p.key p.meaning m.said (bytes_eq p.key abstract_key) refl))
 
 add-yes : (place : EntryNames) (p : Point) (t : Taken) → has p.kind p.key t.points ≡ false
@@ -97,7 +98,7 @@ reads_by isa p meant f families place d t s h c =
     let here = at_key place p.key in
     if-no (holds_families p.kind p.key) (abstract_node families here d t)
     (add_entry isa p.kind here d t)
-    (and-last (same_kind p.kind kind.ValComb) (bytes_eq p.key abstract_key)
+    (and_right (same_kind p.kind kind.ValComb) (bytes_eq p.key abstract_key)
     (not-abstract p.kind p.key p.meaning meant.said (bytes_eq p.key abstract_key) refl))
     ∙ holds-yes (is_shaped p.key d) here fault.BadShape
     (add_said isa p.kind here (says p.kind p.key) t) (shaped-yes p d meant s)
@@ -127,7 +128,7 @@ none-before [] ps p d = refl
 none-before (q ∷ ts) ps p d =
     let later = sym (has-append q.kind q.key ts (p ∷ ps)) ∙ no (has q.kind q.key (ts ++ p ∷ ps))
     (and-left (not (has q.kind q.key (ts ++ p ∷ ps))) (are_distinct (ts ++ p ∷ ps)) d) in
-    or-fails _ (has p.kind p.key ts)
+    or_from _ (has p.kind p.key ts)
     (point-sym p q ∙ or-left _ (has q.kind q.key ps) (or-right (has q.kind q.key ts) _ later))
     (none-before ts ps p
     (and-right (not (has q.kind q.key (ts ++ p ∷ ps))) (are_distinct (ts ++ p ∷ ps)) d))

@@ -6,11 +6,12 @@ use Rattle.std.specs.Prelude.{nat_le, nat_lt, ◌==◌, if◌then◌else◌, sum
 use Rattle.std.specs.List.{list_all}
 use Rattle.std.proofs.lemmas.Bool.Decides.{nat_tests}
 use Rattle.std.proofs.lemmas.List.Sums.{sum_by-cons}
+use Rattle.rvs_cross.proofs.Members.{by_test}
 use Rattle.rvs_insn.specs.Isa.{Isa}
 use Rattle.rvs_insn.specs.Names.{is_admitted_op}
 use Rattle.rvs_tree.specs.Data.{Data, Pairs, own_pairs, is_map, value_at, value_among}
 use Rattle.rvs_abstract.specs.declared.families.Families.{Families}
-use Rattle.rvs_cgf.specs.Keys.{is_label_name}
+use Rattle.rvs_points.specs.Keys.{is_label_name}
 use Rattle.rvs_cgf.specs.Groups.{Point, Label, at_label, at_node, Found, refused, ◌>>=◌, ◌>>◌}
 use Rattle.rvs_cgf.specs.Groups.{holds, Taken, same_kind, is_empty_scalar, entries, all_entries}
 use Rattle.rvs_cgf.specs.Groups.{role_of, Nodes, with_first}
@@ -19,22 +20,22 @@ use Rattle.rvs_cgf.specs.Groups.{main_node, main_of, some_points, nothing_taken,
 use Rattle.rvs_cgf.specs.Groups.{starting, nodes, first_points, chosen, map_label, label_of}
 use Rattle.rvs_cgf.specs.Groups.{size_of, Listed, with_label, label_step}
 use Rattle.rvs_cgf.specs.Groups.{nothing_listed, groups_of}
-use Rattle.rvs_cgf.specs.Print.{kind_name}
-use Rattle.rvs_cgf.specs.Valid.{are_distinct}
+use Rattle.rvs_points.specs.Kinds.{kind_name}
+use Rattle.rvs_points.specs.Valid.{are_distinct}
 use Rattle.rvs_cgf.specs.Spelled.{Block, blocks, SpellsKeys, SpellsNodes, SpellsLabels, SpellsAll}
 use Rattle.rvs_cgf.specs.Spelled.{Spells, selected, kinds_are_apart, IsPlain, ArePlain}
 use Rattle.rvs_cgf.specs.Spelled.{CanBeSpelled, bare, are_admitted}
 use Rattle.rvs_cgf.specs.declared.groups.Role.TheVariants as role
-use Rattle.rvs_cgf.specs.declared.group.Kind.{Kind}
-use Rattle.rvs_cgf.specs.declared.group.Kind.TheVariants as kind
-use Rattle.rvs_cgf.specs.declared.refusal.CgfKind.TheVariants as fault
-use Rattle.rvs_cgf.proofs.Distinct.{and-left, and-right, if-yes, if-no}
+use Rattle.rvs_points.specs.declared.group.Kind.{Kind}
+use Rattle.rvs_points.specs.declared.group.Kind.TheVariants as kind
+use Rattle.rvs_points.specs.declared.refusal.CgfKind.TheVariants as fault
+use Rattle.rvs_points.proofs.Distinct.{and-left, and-right, if-yes, if-no}
 use Rattle.rvs_cgf.proofs.Validity.{front-distinct}
 use Rattle.rvs_cgf.proofs.PointsRead.{holds-yes, bind-yes, entries-yes, ReadsAll, taken-at}
 use Rattle.rvs_cgf.proofs.PointsRead.{block-read, entries-read}
 use Rattle.rvs_cgf.proofs.BlocksRead.{points_in, AllRead}
 use Rattle.rvs_cgf.proofs.BlocksRead.{blocks-points, blocks-meant, blocks-read, main_in, under-yes}
-use Rattle.rvs_cgf.proofs.BlocksRead.{under-no, under-none, cases, under-short, reads-under}
+use Rattle.rvs_cgf.proofs.BlocksRead.{under-no, under-none, under-short, reads-under}
 use Rattle.rvs_cgf.proofs.BlocksRead.{under-distinct, others-apart, rest-apart, ops_under}
 
 -- ---- nodes
@@ -109,7 +110,7 @@ nodes-read isa families label [] (e ∷ es) sp rd ap' n f all is d few = absurd 
 nodes-read isa families label (b ∷ bs) [] sp rd ap' n f all is d few = absurd sp
 nodes-read isa families label (b ∷ bs) (e ∷ es) sp rd apart n f all is d few =
     let long = length-append b.points (points_in bs) in
-    cases (same_kind b.kind kind.Mnemonic)
+    by_test (same_kind b.kind kind.Mnemonic)
     (λ main.
     let own : n.first ≡ b.points = f ∙ under-yes b bs main in
     let rest = nodes-read isa families label bs es sp.3 rd.1 (rest-apart b bs apart) (with_first n)
@@ -195,7 +196,7 @@ main-at [] [] sp some = absurd (omega arith)
 main-at [] (e ∷ es) sp some = absurd sp
 main-at (b ∷ bs) [] sp some = absurd sp
 main-at (b ∷ bs) (e ∷ es) sp some =
-    cases (same_kind b.kind kind.Mnemonic)
+    by_test (same_kind b.kind kind.Mnemonic)
     (λ main. record {
       node = e.1;
       there = if-yes (bytes_eq e.0 (codes "mnemonics")) (Some e.1)

@@ -4,14 +4,14 @@ use Rattle.std.proofs.Common.{ap, subst, ◌∙◌, bytes_eq, codes}
 use Rattle.std.specs.Prelude.{◌||◌, if◌then◌else◌}
 use Rattle.std.proofs.lemmas.Slice.Eq.{bytes_eq-Decides}
 use Rattle.rvs_tree.specs.Data.{Data, value_at}
-use Rattle.rvs_cgf.specs.Keys.{is_printable}
+use Rattle.rvs_points.specs.Keys.{is_printable}
 use Rattle.rvs_cgf.specs.Groups.{same_kind, is_passed_over, role_of, main_node, main_of}
-use Rattle.rvs_cgf.specs.Print.{kind_name}
+use Rattle.rvs_points.specs.Kinds.{kind_name}
 use Rattle.rvs_cgf.specs.declared.groups.Role.{Role}
 use Rattle.rvs_cgf.specs.declared.groups.Role.TheVariants as role
-use Rattle.rvs_cgf.specs.declared.group.Kind.{Kind}
-use Rattle.rvs_cgf.specs.declared.group.Kind.TheVariants as kind
-use Rattle.rvs_cgf.proofs.Distinct.{or-cases}
+use Rattle.rvs_points.specs.declared.group.Kind.{Kind}
+use Rattle.rvs_points.specs.declared.group.Kind.TheVariants as kind
+use Rattle.rvs_points.proofs.Distinct.{or-cases}
 use Rattle.rvs_cgf.proofs.Adding.{ok-is, err-not}
 
 pub same-bytes : (xs ys : List ℕ) → bytes_eq xs ys ≡ true → xs ≡ ys

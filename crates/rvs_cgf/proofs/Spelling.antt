@@ -6,15 +6,17 @@ use Rattle.std.proofs.Common.{bytes_eq, codes, inl, inr, cond}
 use Rattle.std.specs.Prelude.{nat_le, nat_lt, ◌||◌, ◌⊎◌, if◌then◌else◌, sum_by}
 use Rattle.std.specs.List.{list_any, list_all}
 use Rattle.std.proofs.lemmas.Bool.Decides.{nat_tests}
+use Rattle.std.proofs.lemmas.Bool.{and_from}
 use Rattle.std.proofs.lemmas.List.Elements.{All-nil, All-push, All-head, All-tail}
 use Rattle.std.proofs.lemmas.List.Folds.{list_all-append, list_any-append}
 use Rattle.std.proofs.lemmas.List.Sums.{sum_by-cons, sum_by-append}
 use Rattle.std.proofs.lemmas.List.Filters.{length-filter_both, sum_by-filter_both}
+use Rattle.rvs_cross.proofs.Members.{by_test}
 use Rattle.rvs_insn.specs.Isa.{Isa}
 use Rattle.rvs_insn.specs.declared.op.Op.{Op}
 use Rattle.rvs_tree.specs.Data.{Data, Pairs, own_pairs, is_map, value_at, value_among}
 use Rattle.rvs_abstract.specs.declared.families.Families.{Families}
-use Rattle.rvs_cgf.specs.Keys.{is_label_name}
+use Rattle.rvs_points.specs.Keys.{is_label_name}
 use Rattle.rvs_cgf.specs.Groups.{Point, Label, at_label, at_node, at_key, refused, ◌>>=◌, Taken}
 use Rattle.rvs_cgf.specs.Groups.{same_kind, entries, all_entries, passed_over, role_of, Nodes}
 use Rattle.rvs_cgf.specs.Groups.{with_first, by_role, node_step, config_holds, selects, for_each}
@@ -22,25 +24,25 @@ use Rattle.rvs_cgf.specs.Groups.{main_of, ops_of, finished, starting, nodes, fir
 use Rattle.rvs_cgf.specs.Groups.{selected_label, unselected, chosen, map_label, label_of, size_of}
 use Rattle.rvs_cgf.specs.Groups.{Listed, with_label, label_step, nothing_listed}
 use Rattle.rvs_cgf.specs.Groups.{groups_of}
-use Rattle.rvs_cgf.specs.Print.{kind_name}
+use Rattle.rvs_points.specs.Kinds.{kind_name}
 use Rattle.rvs_cgf.specs.Spelled.{blocks, kinds_are_apart, IsPlain, ArePlain, CanBeSpelled}
 use Rattle.rvs_cgf.specs.Spelled.{selected, keys_are_own, nodes_are_own}
 use Rattle.rvs_cgf.specs.GroupView.{AnswersWith, label_view}
-use Rattle.rvs_cgf.specs.declared.group.Label.{Label as Read}
+use Rattle.rvs_points.specs.declared.group.Label.{Label as Read}
 use Rattle.rvs_cgf.specs.declared.refusal.CgfRefusal.{CgfRefusal}
 use Rattle.rvs_cgf.specs.declared.groups.Role.{Role}
 use Rattle.rvs_cgf.specs.declared.groups.Role.TheVariants as role
-use Rattle.rvs_cgf.specs.declared.group.Kind.{Kind}
-use Rattle.rvs_cgf.specs.declared.group.Kind.TheVariants as kind
-use Rattle.rvs_cgf.specs.declared.refusal.CgfKind.TheVariants as fault
-use Rattle.rvs_cgf.proofs.SameKinds.{same-self, kind-is, kind-sym}
-use Rattle.rvs_cgf.proofs.Distinct.{and-left, and-right, and-is, or-left, or-right, or-cases, no}
-use Rattle.rvs_cgf.proofs.Distinct.{both-ways, is_mnemonic}
+use Rattle.rvs_points.specs.declared.group.Kind.{Kind}
+use Rattle.rvs_points.specs.declared.group.Kind.TheVariants as kind
+use Rattle.rvs_points.specs.declared.refusal.CgfKind.TheVariants as fault
+use Rattle.rvs_points.proofs.SameKinds.{same-self, kind-is, kind-sym}
+use Rattle.rvs_points.proofs.Distinct.{and-left, and-right, or-left, or-right, or-cases, no}
+use Rattle.rvs_points.proofs.Distinct.{both-ways, is_mnemonic}
 use Rattle.rvs_cgf.proofs.Adding.{ok-is, err-not, if-ok, bind-ok, holds-then, entries-are, Kept}
 use Rattle.rvs_cgf.proofs.Adding.{IsOf, entry-kept, entries-kept, passed-kept}
 use Rattle.rvs_cgf.proofs.Roles.{same-bytes, Suits, role-suits, main-is}
 use Rattle.rvs_cgf.proofs.Validity.{first-mains, ops-append, label-valid}
-use Rattle.rvs_cgf.proofs.BlocksRead.{op-none, cases}
+use Rattle.rvs_cgf.proofs.BlocksRead.{op-none}
 use Rattle.rvs_cgf.proofs.Together.{has_kind, all_of, together, others-none}
 use Rattle.rvs_cgf.proofs.Together.{together-append, together-apart}
 
@@ -56,9 +58,9 @@ grows-kept k base = record {
   one = λ p t h q b c. record {
     more = h.more ++ p ∷ [];
     is = ap (λ xs. xs ++ p ∷ []) h.is ∙ append_assoc base h.more (p ∷ []);
-    of_kind = list_all-append (λ x. same_kind x.kind k) h.more (p ∷ []) ∙ and-is (all_of k h.more)
+    of_kind = list_all-append (λ x. same_kind x.kind k) h.more (p ∷ []) ∙ and_from (all_of k h.more)
         (same_kind p.kind k && true) h.of_kind
-        (and-is (same_kind p.kind k) true (ap (λ j. same_kind j k) q.kind_is ∙ same-self k) refl);
+        (and_from (same_kind p.kind k) true (ap (λ j. same_kind j k) q.kind_is ∙ same-self k) refl);
     no_ops = ops-append h.more (p ∷ []) ∙ ap (λ xs. xs ++ ops_of (p ∷ [])) h.no_ops
         ∙ ap (λ xs. xs ++ []) (op-none p q.other q.meant);
   };
@@ -114,7 +116,7 @@ rest-later k e es h = or-right (bytes_eq e.0 (kind_name k)) (named_among (kind_n
 main-goes : (main : List ℕ) (ops : List Op) (n : Nodes) (e : List ℕ × Data) (es : Pairs)
     → Goes main ops n (e ∷ es) → Goes main ops (with_first n) es
 main-goes main ops n e es h = record {
-  stand = cases (has_kind kind.Mnemonic n.taken.points)
+  stand = by_test (has_kind kind.Mnemonic n.taken.points)
       (λ b. ap (λ xs. together (n.taken.points ++ xs)) (h.main_once b)
       ∙ ap together (append-nil n.taken.points) ∙ h.stand)
       (λ b. together-append kind.Mnemonic n.taken.points n.first h.stand h.mains b);
@@ -141,7 +143,7 @@ added-goes : (main : List ℕ) (ops : List Op) (n : Nodes) (e : List ℕ × Data
 added-goes main ops n e es k is here own h w g =
     let node = (role-suits e.0).node_of k here in
     let name : e.0 ≡ kind_name k = same-bytes e.0 (kind_name k) node.named in
-    let fresh : has_kind k n.taken.points ≡ false = cases (has_kind k n.taken.points)
+    let fresh : has_kind k n.taken.points ≡ false = by_test (has_kind k n.taken.points)
     (λ b. both-ways (bytes_eq e.0 (kind_name k)) node.named (or-left (bytes_eq e.0 (kind_name k))
     (named_among (kind_name k) es) (h.later k node.other b)))
     (λ b. b) in
@@ -153,7 +155,7 @@ added-goes main ops n e es k is here own h w g =
       stand = ap together g.is ∙ together-append k n.taken.points g.more h.stand g.of_kind fresh;
       later = λ j o b. or-cases (has_kind j n.taken.points) (has_kind j g.more) (sym (split j) ∙ b)
           (λ x. rest-later j e es (h.later j o x))
-          (λ x. cases (same_kind k j)
+          (λ x. by_test (same_kind k j)
           (λ y. ap (λ z. named_among z es) (ap kind_name (sym (kind-is k j y)) ∙ sym name)
           ∙ no (named_among e.0 es) own)
           (λ y. both-ways (has_kind j g.more) x (others-none k j g.more g.of_kind y)));

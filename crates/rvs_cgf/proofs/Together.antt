@@ -1,15 +1,16 @@
 -- Points of a kind that stand together.
 use Rattle.std.proofs.Common.{◌≡◌, Bool, true, false, not, ◌&&◌, List, [], ◌∷◌, ◌++◌, refl, sym, ap}
 use Rattle.std.proofs.Common.{◌∙◌}
+use Rattle.std.proofs.lemmas.Bool.{and_from, or_from, or_left, or_right}
 use Rattle.std.specs.Prelude.{◌||◌, if◌then◌else◌}
 use Rattle.std.specs.List.{list_any, list_all}
 use Rattle.std.proofs.lemmas.List.Folds.{list_any-append}
 use Rattle.rvs_cgf.specs.Groups.{Point, same_kind}
 use Rattle.rvs_cgf.specs.Spelled.{Block, block, joined, blocks, kinds_are_apart}
-use Rattle.rvs_cgf.specs.declared.group.Kind.{Kind}
-use Rattle.rvs_cgf.proofs.SameKinds.{kind-is, kind-sym}
-use Rattle.rvs_cgf.proofs.Distinct.{and-left, and-right, and-is, or-left, or-right, or-fails}
-use Rattle.rvs_cgf.proofs.Distinct.{or-cases, no}
+use Rattle.rvs_points.specs.declared.group.Kind.{Kind}
+use Rattle.rvs_points.proofs.SameKinds.{kind-is, kind-sym}
+use Rattle.rvs_points.proofs.Distinct.{and-left, and-right, or-left, or-right}
+use Rattle.rvs_points.proofs.Distinct.{or-cases, no}
 
 -- ---- points of a kind
 abbrev pub has_kind : Kind → List Point → Bool
@@ -27,20 +28,12 @@ abbrev pub together : List Point → Bool
 together [] = true
 together (p ∷ ps) = (begins_kind p.kind ps || not (has_kind p.kind ps)) && together ps
 
-pub or-yes : (x y : Bool) → x ≡ true → (x || y) ≡ true
-or-yes true y e = refl
-or-yes false y e = cc
-
-pub or-second : (x y : Bool) → y ≡ true → (x || y) ≡ true
-or-second true y e = refl
-or-second false y e = e
-
 -- points of one kind have no other
 pub others-none : (k j : Kind) (ps : List Point) → all_of k ps ≡ true → same_kind k j ≡ false
     → has_kind j ps ≡ false
 others-none k j [] a d = refl
 others-none k j (p ∷ ps) a d =
-    or-fails (same_kind p.kind j) (has_kind j ps)
+    or_from (same_kind p.kind j) (has_kind j ps)
     (ap (λ x. same_kind x j) (kind-is p.kind k (and-left (same_kind p.kind k) (all_of k ps) a)) ∙ d)
     (others-none k j ps (and-right (same_kind p.kind k) (all_of k ps) a) d)
 
@@ -50,8 +43,8 @@ one-kind k (p ∷ []) a = refl
 one-kind k (p ∷ q ∷ qs) a =
     let own = kind-is p.kind k (and-left (same_kind p.kind k) (all_of k (q ∷ qs)) a) in
     let rest = and-right (same_kind p.kind k) (all_of k (q ∷ qs)) a in
-    and-is (same_kind q.kind p.kind || not (has_kind p.kind (q ∷ qs))) (together (q ∷ qs))
-    (or-yes (same_kind q.kind p.kind) (not (has_kind p.kind (q ∷ qs)))
+    and_from (same_kind q.kind p.kind || not (has_kind p.kind (q ∷ qs))) (together (q ∷ qs))
+    (or_left (same_kind q.kind p.kind) (not (has_kind p.kind (q ∷ qs)))
     (ap (same_kind q.kind) own ∙ and-left (same_kind q.kind k) (all_of k qs) rest))
     (one-kind k (q ∷ qs) rest)
 
@@ -67,12 +60,13 @@ together-append k [] ys t a h = one-kind k ys a
 together-append k (x ∷ xs) ys t a h =
     let apart = kind-sym k x.kind ∙ (or-left (same_kind x.kind k) (has_kind k xs) h) in
     let first = and-left (begins_kind x.kind xs || not (has_kind x.kind xs)) (together xs) t in
-    and-is (begins_kind x.kind (xs ++ ys) || not (has_kind x.kind (xs ++ ys))) (together (xs ++ ys))
+    and_from (begins_kind x.kind (xs ++ ys) || not (has_kind x.kind (xs ++ ys)))
+    (together (xs ++ ys))
     (or-cases (begins_kind x.kind xs) (not (has_kind x.kind xs)) first
-    (λ b. or-yes (begins_kind x.kind (xs ++ ys)) (not (has_kind x.kind (xs ++ ys)))
+    (λ b. or_left (begins_kind x.kind (xs ++ ys)) (not (has_kind x.kind (xs ++ ys)))
     (begins-append x.kind xs ys b))
-    (λ n. or-second (begins_kind x.kind (xs ++ ys)) (not (has_kind x.kind (xs ++ ys)))
-    (ap not (list_any-append (λ p. same_kind p.kind x.kind) xs ys ∙ or-fails (has_kind x.kind xs)
+    (λ n. or_right (begins_kind x.kind (xs ++ ys)) (not (has_kind x.kind (xs ++ ys)))
+    (ap not (list_any-append (λ p. same_kind p.kind x.kind) xs ys ∙ or_from (has_kind x.kind xs)
     (has_kind x.kind ys) (no (has_kind x.kind xs) n) (others-none k x.kind ys a apart)))))
     (together-append k xs ys
     (and-right (begins_kind x.kind xs || not (has_kind x.kind xs)) (together xs) t) a
@@ -141,7 +135,7 @@ joined-new p (b ∷ bs) h a =
     by : (x : Bool) → x ≡ false → kinds_are_apart
         (if x then block p.kind (p ∷ b.points) ∷ bs else block p.kind (p ∷ []) ∷ b ∷ bs) ≡ true
     by true f = cc
-    by false f = and-is (not (block_has p.kind (b ∷ bs))) (kinds_are_apart (b ∷ bs)) (ap not h) a
+    by false f = and_from (not (block_has p.kind (b ∷ bs))) (kinds_are_apart (b ∷ bs)) (ap not h) a
 
 pub joined-front : (p : Point) (k : Kind) (bs : List Block) → Front k bs → same_kind k p.kind ≡ true
     → kinds_are_apart bs ≡ true → kinds_are_apart (joined p bs) ≡ true

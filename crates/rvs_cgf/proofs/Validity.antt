@@ -6,7 +6,7 @@ use Rattle.std.proofs.Common.{append-nil, length-append, bytes_eq, codes}
 use Rattle.std.specs.Prelude.{nat_le, nat_lt, ◌==◌, ◌||◌, if◌then◌else◌, cond}
 use Rattle.std.specs.List.{list_any, list_all, find}
 use Rattle.std.proofs.lemmas.Bool.Decides.{nat_tests}
-use Rattle.std.proofs.lemmas.Bool.{eqb-true}
+use Rattle.std.proofs.lemmas.Bool.{eqb-true, and_from, or_from}
 use Rattle.std.proofs.lemmas.List.Elements.{All-nil, All-cons, All-push, All-append, All-head}
 use Rattle.std.proofs.lemmas.List.Elements.{All-tail}
 use Rattle.std.proofs.lemmas.List.Folds.{list_all-append, list_any-append}
@@ -19,8 +19,8 @@ use Rattle.rvs_tree.specs.Data.{Data, Pairs, own_pairs, is_map, value_at}
 use Rattle.rvs_facts.specs.Mnemonics.{number, is_same}
 use Rattle.rvs_facts.proofs.Places.{same_number}
 use Rattle.rvs_abstract.specs.declared.families.Families.{Families}
-use Rattle.rvs_cgf.specs.Keys.{is_label_name, is_printable}
-use Rattle.rvs_cgf.specs.Says.{of_op}
+use Rattle.rvs_points.specs.Keys.{is_label_name, is_printable}
+use Rattle.rvs_points.specs.Says.{of_op}
 use Rattle.rvs_cgf.specs.Groups.{Meaning, op_is, Point, Label, means, says, admits}
 use Rattle.rvs_cgf.specs.Groups.{EntryNames, at_label, at_node, at_key, Found, refused, ◌>>=◌, ◌>>◌}
 use Rattle.rvs_cgf.specs.Groups.{holds, Taken, same_kind, is_point, has, entries, entry_of}
@@ -31,20 +31,20 @@ use Rattle.rvs_cgf.specs.Groups.{nothing_taken, op_in, ops_of, finished, startin
 use Rattle.rvs_cgf.specs.Groups.{first_points, selected_label, unselected, chosen, map_label}
 use Rattle.rvs_cgf.specs.Groups.{label_of, size_of, Listed, with_label, label_step}
 use Rattle.rvs_cgf.specs.Groups.{nothing_listed, groups_of}
-use Rattle.rvs_cgf.specs.Valid.{are_distinct, ops_are_distinct, IsMeant, IsValid}
-use Rattle.rvs_cgf.specs.Valid.{IsValidIfSelected}
+use Rattle.rvs_points.specs.Valid.{are_distinct, ops_are_distinct, IsMeant, IsValid}
+use Rattle.rvs_points.specs.Valid.{IsValidIfSelected}
 use Rattle.rvs_cgf.specs.GroupView.{AnswersWith, label_view}
-use Rattle.rvs_cgf.specs.declared.group.Label.{Label as Read}
+use Rattle.rvs_points.specs.declared.group.Label.{Label as Read}
 use Rattle.rvs_cgf.specs.declared.refusal.CgfRefusal.{CgfRefusal}
 use Rattle.rvs_cgf.specs.declared.groups.Role.{Role}
 use Rattle.rvs_cgf.specs.declared.groups.Role.TheVariants as role
-use Rattle.rvs_cgf.specs.declared.group.Kind.{Kind}
-use Rattle.rvs_cgf.specs.declared.group.Kind.TheVariants as kind
-use Rattle.rvs_cgf.specs.declared.refusal.CgfKind.TheVariants as fault
-use Rattle.rvs_cgf.proofs.SameKinds.{kind-is}
-use Rattle.rvs_cgf.proofs.Distinct.{and-left, and-right, and-is, or-left, or-right, or-fails}
-use Rattle.rvs_cgf.proofs.Distinct.{no, has-append, distinct_insert, is_mnemonic, no-mnemonic}
-use Rattle.rvs_cgf.proofs.Saying.{by-op}
+use Rattle.rvs_points.specs.declared.group.Kind.{Kind}
+use Rattle.rvs_points.specs.declared.group.Kind.TheVariants as kind
+use Rattle.rvs_points.specs.declared.refusal.CgfKind.TheVariants as fault
+use Rattle.rvs_points.proofs.SameKinds.{kind-is}
+use Rattle.rvs_points.proofs.Distinct.{and-left, and-right, or-left, or-right}
+use Rattle.rvs_points.proofs.Distinct.{no, has-append, distinct_insert, is_mnemonic, no-mnemonic}
+use Rattle.rvs_points.proofs.Saying.{by-op}
 use Rattle.rvs_cgf.proofs.Adding.{ok-is, err-not, if-ok, bind-ok, holds-then, Kept, IsOf, Gives}
 use Rattle.rvs_cgf.proofs.Adding.{each-kept, point-kept, entry-kept, entries-kept, passed-kept}
 use Rattle.rvs_cgf.proofs.Roles.{same-bytes, Suits, role-suits, main-printable}
@@ -206,7 +206,7 @@ op-not-there (q ∷ qs) op key e meant mains h =
     by-op (op_of_name q.key) q.meaning
     (main-kind q.kind q.key q.meaning main (All-head IsMeant q qs meant).said)
     (λ other f m. ap (λ x. list_any (is_same op) (op_in x ++ ops_of qs)) m
-    ∙ or-fails (is_same op other) (list_any (is_same op) (ops_of qs))
+    ∙ or_from (is_same op other) (list_any (is_same op) (ops_of qs))
     (other-op op other key q.key e f (is_same op other) refl differs) rest)
 
 ops-insert : (ops : List Op) (op : Op) → ops_are_distinct ops ≡ true
@@ -214,10 +214,10 @@ ops-insert : (ops : List Op) (op : Op) → ops_are_distinct ops ≡ true
 ops-insert [] op d h = refl
 ops-insert (o ∷ ops) op d h =
     let own = and-left (not (list_any (is_same o) ops)) (ops_are_distinct ops) d in
-    and-is (not (list_any (is_same o) (ops ++ op ∷ []))) (ops_are_distinct (ops ++ op ∷ []))
+    and_from (not (list_any (is_same o) (ops ++ op ∷ []))) (ops_are_distinct (ops ++ op ∷ []))
     (ap not (list_any-append (is_same o) ops (op ∷ [])
-    ∙ or-fails (list_any (is_same o) ops) (is_same o op || false) (no (list_any (is_same o) ops)
-    own) (or-fails (is_same o op) false
+    ∙ or_from (list_any (is_same o) ops) (is_same o op || false) (no (list_any (is_same o) ops)
+    own) (or_from (is_same o op) false
     (turned o op (or-left (is_same op o) (list_any (is_same op) ops) h)) refl)))
     (ops-insert ops op (and-right (not (list_any (is_same o) ops)) (ops_are_distinct ops) d)
     (or-right (is_same op o) (list_any (is_same op) ops) h))
@@ -245,15 +245,16 @@ mains-kept isa = record {
         distinct = distinct_insert t.points [] p
             (ap are_distinct (append-nil t.points) ∙ h.distinct) b refl;
         meant = All-push IsMeant t.points p h.meant q.meant;
-        mains = list_all-append is_mnemonic t.points (p ∷ []) ∙ and-is
+        mains = list_all-append is_mnemonic t.points (p ∷ []) ∙ and_from
             (list_all is_mnemonic t.points) (is_mnemonic p && true) h.mains
-            (and-is (is_mnemonic p) true q.main refl);
+            (and_from (is_mnemonic p) true q.main refl);
         own = ap ops_are_distinct is ∙ ops-insert (ops_of t.points) q.op h.own
             (op-not-there t.points q.op p.key q.named h.meant h.mains k);
         all_admitted = ap (list_all (is_admitted_op isa)) is ∙ list_all-append (is_admitted_op isa)
-            (ops_of t.points) (q.op ∷ []) ∙ and-is (list_all (is_admitted_op isa) (ops_of t.points))
+            (ops_of t.points) (q.op ∷ []) ∙ and_from
+            (list_all (is_admitted_op isa) (ops_of t.points))
             (is_admitted_op isa q.op && true) h.all_admitted
-            (and-is (is_admitted_op isa q.op) true q.admitted_op refl);
+            (and_from (is_admitted_op isa q.op) true q.admitted_op refl);
         each = ap length is ∙ omega (
           arith,
           h.each,
@@ -319,7 +320,7 @@ pub front-distinct : (ps qs : List Point) → are_distinct (ps ++ qs) ≡ true �
 front-distinct [] qs e = refl
 front-distinct (p ∷ ps) qs e =
     let front = and-left (not (has p.kind p.key (ps ++ qs))) (are_distinct (ps ++ qs)) e in
-    and-is (not (has p.kind p.key ps)) (are_distinct ps)
+    and_from (not (has p.kind p.key ps)) (are_distinct ps)
     (ap not (or-left (has p.kind p.key ps) (has p.kind p.key qs)
     (sym (has-append p.kind p.key ps qs) ∙ no (has p.kind p.key (ps ++ qs)) front)))
     (front-distinct ps qs

@@ -9,27 +9,20 @@ use Rattle.rvs_expr_text.specs.declared.refusal.ExprRefusal.{ExprRefusal}
 use Rattle.rvs_cross.specs.Refusals as crosses
 use Rattle.rvs_cross.specs.declared.refusal.CrossRefusal.{CrossRefusal}
 use Rattle.rvs_cross.specs.declared.refusal.CrossRefusal.TheVariants as cross
+use Rattle.rvs_points.specs.Kinds.{kind_name}
+use Rattle.rvs_points.specs.Faults.{number_of}
 use Rattle.rvs_cgf.specs.Groups.{Label, Point, Skipped, Refusal, same_kind}
-use Rattle.rvs_cgf.specs.declared.group.Kind.{Kind}
-use Rattle.rvs_cgf.specs.declared.group.Kind.TheVariants as kind
-use Rattle.rvs_cgf.specs.declared.refusal.CgfKind.{CgfKind}
-use Rattle.rvs_cgf.specs.declared.refusal.CgfKind.TheVariants.{BadLabelName, BadShape, UnknownNode}
-use Rattle.rvs_cgf.specs.declared.refusal.CgfKind.TheVariants.{UnknownMnemonic, BadRegister}
-use Rattle.rvs_cgf.specs.declared.refusal.CgfKind.TheVariants.{BadExpr, BadAbstract, BadCross}
-use Rattle.rvs_cgf.specs.declared.refusal.CgfKind.TheVariants.{BadConfig, TooManyLabels}
-use Rattle.rvs_cgf.specs.declared.refusal.CgfKind.TheVariants.{TooManyPoints, NoRoom, NoMemory}
+use Rattle.rvs_points.specs.declared.group.Kind.{Kind}
+use Rattle.rvs_points.specs.declared.group.Kind.TheVariants as kind
+use Rattle.rvs_points.specs.declared.refusal.CgfKind.{CgfKind}
+use Rattle.rvs_points.specs.declared.refusal.CgfKind.TheVariants.{BadLabelName, BadShape}
+use Rattle.rvs_points.specs.declared.refusal.CgfKind.TheVariants.{UnknownNode}
+use Rattle.rvs_points.specs.declared.refusal.CgfKind.TheVariants.{UnknownMnemonic, BadRegister}
+use Rattle.rvs_points.specs.declared.refusal.CgfKind.TheVariants.{BadExpr, BadAbstract, BadCross}
+use Rattle.rvs_points.specs.declared.refusal.CgfKind.TheVariants.{BadConfig, TooManyLabels}
+use Rattle.rvs_points.specs.declared.refusal.CgfKind.TheVariants.{TooManyPoints, NoRoom, NoMemory}
 
 -- ---- groups with all their points written out
--- the node of a kind
-abbrev pub kind_name : Kind → List ℕ
-kind_name kind.Mnemonic = codes "mnemonics"
-kind_name kind.Rs1 = codes "rs1"
-kind_name kind.Rs2 = codes "rs2"
-kind_name kind.Rd = codes "rd"
-kind_name kind.OpComb = codes "op_comb"
-kind_name kind.ValComb = codes "val_comb"
-kind_name kind.CrossComb = codes "cross_comb"
-
 -- a single quote twice
 abbrev pub doubled_byte : ℕ → List ℕ
 doubled_byte c = if c == 39 then 39 ∷ 39 ∷ [] else c ∷ []
@@ -77,22 +70,6 @@ abbrev pub normal_text : List Label → List ℕ
 normal_text groups = flat_map label_text groups
 
 -- ---- refusals
--- the number of the rule, in the order of docs/FORMATS.md
-abbrev pub number_of : CgfKind → ℕ
-number_of BadLabelName = 1
-number_of BadShape = 2
-number_of UnknownNode = 3
-number_of UnknownMnemonic = 4
-number_of BadRegister = 5
-number_of (BadExpr why) = 6
-number_of (BadAbstract why) = 7
-number_of (BadCross why) = 8
-number_of BadConfig = 9
-number_of TooManyLabels = 10
-number_of TooManyPoints = 11
-number_of NoRoom = 12
-number_of NoMemory = 13
-
 -- an empty text is written `-`
 abbrev pub or_dash : List ℕ → List ℕ
 or_dash [] = codes "-"

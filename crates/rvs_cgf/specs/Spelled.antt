@@ -6,10 +6,10 @@ use Rattle.rvs_insn.specs.Isa.{Isa}
 use Rattle.rvs_insn.specs.Names.{is_admitted_op}
 use Rattle.rvs_tree.specs.Data.{Data, Pairs, own_pairs, is_map, is_scalar}
 use Rattle.rvs_cgf.specs.Groups.{Point, Label, same_kind, is_empty_scalar, ops_of, size_of}
-use Rattle.rvs_cgf.specs.Print.{kind_name}
-use Rattle.rvs_cgf.specs.Valid.{IsValid}
-use Rattle.rvs_cgf.specs.declared.group.Kind.{Kind}
-use Rattle.rvs_cgf.specs.Limits.{most_labels, most_pairs}
+use Rattle.rvs_points.specs.Kinds.{kind_name}
+use Rattle.rvs_points.specs.Valid.{IsValid}
+use Rattle.rvs_points.specs.declared.group.Kind.{Kind}
+use Rattle.rvs_points.specs.Limits.{most_labels, most_pairs}
 
 -- points of one kind side by side
 pub record Block : Type 0 where

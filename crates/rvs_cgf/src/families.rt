@@ -9,13 +9,13 @@ ghost use Rattle.rvs_cgf.specs.Groups as spec;
 ghost use Rattle.rvs_cgf.specs.GroupView.{AnswersWith, taken_view, point_view};
 ghost use Rattle.rvs_cgf.specs.PlaceView.{place_view};
 
-use crate::group::{Kind, Meaning, Point};
 use crate::place::{At, at_key};
-use crate::refusal::{CgfKind, CgfRefusal};
+use crate::refusal::CgfRefusal;
 use crate::walk::{Taken, add, is_shaped, no_memory, refusal, skip};
 use rvs_abstract::{AbstractRefusal, Call, Families, Family4, len, read_call, value};
 use rvs_base::{NoMemory, Text};
 use rvs_expr::{Expr, NumName, parse_num};
+use rvs_points::{CgfKind, Kind, Meaning, Point};
 use rvs_tree::Tree;
 use std::alloc::Global;
 

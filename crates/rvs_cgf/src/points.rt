@@ -3,11 +3,12 @@ ghost use Rattle.std.specs.Prelude.{◌≡◌, ◌∷◌, ◌++◌, [], ℕ, Lis
 ghost use Rattle.std.specs.Prelude.{IfOk};
 ghost use Rattle.std.specs.BTreeSet.{contains_text};
 ghost use Rattle.rvs_cgf.specs.Groups as spec;
-ghost use Rattle.rvs_cgf.specs.PointView.{point_view};
-ghost use Rattle.rvs_cgf.specs.PointKeys.{mark, AreKeysOf};
+ghost use Rattle.rvs_points.specs.PointView.{point_view};
+ghost use Rattle.rvs_points.specs.Kinds.{mark};
+ghost use Rattle.rvs_cgf.specs.PointKeys.{AreKeysOf};
 
-use crate::group::{Kind, Point};
 use rvs_base::{Items, NoMemory, release};
+use rvs_points::{Kind, Point};
 use std::alloc::{AllocError, Global};
 use std::collections::BTreeSet;
 

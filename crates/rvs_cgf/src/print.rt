@@ -5,31 +5,14 @@ ghost use Rattle.std.specs.List.{flat_map, before_first, after_first, position_o
 ghost use Rattle.rvs_cgf.specs.GroupView.{label_view, point_view, skipped_view, refusal_view};
 ghost use Rattle.rvs_cgf.specs.Print as spec;
 
-use crate::group::{Groups, Kind, Label, Point, Skipped};
-use crate::refusal::{CgfKind, CgfRefusal};
+use crate::refusal::CgfRefusal;
 use crate::walk::same_kind;
 use rvs_abstract::AbstractRefusal;
 use rvs_base::{NoMemory, Text};
 use rvs_cross::CrossRefusal;
 use rvs_expr::ExprRefusal;
+use rvs_points::{CgfKind, Groups, Kind, Label, Point, Skipped};
 use std::alloc::Global;
-
-impl Kind {
-    /// The node that points of the kind stand under, as a group file has it.
-    pub fn name(self) -> &'static str
-        ensures { result.now ≡ spec.kind_name self }
-    {
-        match self {
-            Kind::Mnemonic => "mnemonics",
-            Kind::Rs1 => "rs1",
-            Kind::Rs2 => "rs2",
-            Kind::Rd => "rd",
-            Kind::OpComb => "op_comb",
-            Kind::ValComb => "val_comb",
-            Kind::CrossComb => "cross_comb",
-        }
-    }
-}
 
 /// What stands before and behind the first single quote.
 fn at_quote(text: &str) -> Option<(&str, &str)>

@@ -7,21 +7,21 @@ ghost use Rattle.rvs_cgf.specs.Print.{label_text};
 ghost use Rattle.rvs_cgf.specs.Writing.{normal_of, told, told_of, nothing_told};
 ghost use Rattle.rvs_cgf.specs.GroupView.{AnswersWith, label_view};
 ghost use Rattle.rvs_cgf.specs.WrittenView.{written_view};
-ghost use Rattle.rvs_cgf.specs.Limits.{most_labels, most_pairs};
+ghost use Rattle.rvs_points.specs.Limits.{most_labels, most_pairs};
 
 use crate::entries::is_empty_scalar;
-use crate::group::Label;
 use crate::labelling::label_of;
 use crate::limits::{MOST_LABELS, MOST_PAIRS};
 use crate::listing::size;
 use crate::place::at_label;
 use crate::print::push_label;
-use crate::refusal::{CgfKind, CgfRefusal};
+use crate::refusal::CgfRefusal;
 use crate::walk::{holds, no_memory, refusal};
 use crate::written::Written;
 use rvs_abstract::Families;
 use rvs_base::{NoMemory, Text, release};
 use rvs_insn::IsaSpec;
+use rvs_points::{CgfKind, Label};
 use rvs_tree::Tree;
 use std::alloc::Global;
 

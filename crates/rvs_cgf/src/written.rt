@@ -1,6 +1,6 @@
 // Labels that were written out.
 ghost use Rattle.std.specs.Prelude.{◌≤◌};
-ghost use Rattle.rvs_cgf.specs.Limits.{most_pairs};
+ghost use Rattle.rvs_points.specs.Limits.{most_pairs};
 
 use rvs_base::Text;
 

@@ -4,10 +4,10 @@ use Rattle.std.specs.Prelude.{map}
 use Rattle.rvs_log.specs.Entries.{entries_of}
 use Rattle.rvs_log.specs.Taken.{ended, state_for}
 use Rattle.rvs_log.proofs.Streams.{told_whole}
-use Rattle.rvs_cgf.specs.declared.group.Label.{Label}
-use Rattle.rvs_count.specs.Counting.{aims_in, count, kept}
+use Rattle.rvs_points.specs.declared.group.Label.{Label}
+use Rattle.rvs_index.specs.Counting.{aims_in, count, kept}
 use Rattle.rvs_base.specs.declared.asked.Window.{Window}
-use Rattle.rvs_count.specs.State.{state_of}
+use Rattle.rvs_index.specs.State.{state_of}
 
 pub counted_all : (labels : List Label) (windows : List Window) (log : List ℕ) (n : ℕ)
     → (state_of labels windows (ended log) n).told.counts

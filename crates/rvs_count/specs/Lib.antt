@@ -1,14 +1,2 @@
-pub mod Buckets
-pub mod Cells
-pub mod Counting
-pub mod Entries
-pub mod Index
-pub mod Marks
 pub mod Report
-pub mod Runs
-pub mod Shared
-pub mod Shortcuts
-pub mod Signs
 pub mod Sound
-pub mod State
-pub mod Wanted

@@ -3,8 +3,8 @@ use Rattle.std.specs.Prelude.{ℕ, ◌==◌, not, if◌then◌else◌, List, [],
 use Rattle.std.specs.Prelude.{count_by, codes}
 use Rattle.std.specs.List.{flat_map}
 use Rattle.std.specs.Fmt.{decimal}
-use Rattle.rvs_cgf.specs.Groups.{Label, Point, Skipped}
-use Rattle.rvs_cgf.specs.Print.{kind_name}
+use Rattle.rvs_points.specs.Points.{Label, Point, Skipped}
+use Rattle.rvs_points.specs.Kinds.{kind_name}
 
 -- a point: its count, its kind and its key
 abbrev pub point_line : ℕ → Point → List ℕ

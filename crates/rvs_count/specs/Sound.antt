@@ -1,7 +1,7 @@
 -- What a tally's fields say, and what always holds of them.
 use Rattle.std.specs.Prelude.{◌≡◌, ◌≤◌, All, length}
-use Rattle.rvs_count.specs.Counting.{aims_in}
-use Rattle.rvs_count.specs.State.{Tallied, followed}
+use Rattle.rvs_index.specs.Counting.{aims_in}
+use Rattle.rvs_index.specs.State.{Tallied, followed}
 use Rattle.rvs_count.specs.declared.tally.Tally.TheInside.{Inside}
 
 abbrev pub tallied : Inside → Tallied

@@ -1,11 +1,11 @@
 // Counting while a log comes.
 ghost use Rattle.std.specs.Prelude.{◌≡◌, [], IfOk};
-ghost use Rattle.rvs_count.specs.State.{state_of};
+ghost use Rattle.rvs_index.specs.State.{state_of};
 
 use crate::tally::Tally;
 use rvs_base::{Items, NoMemory, Window};
-use rvs_cgf::Groups;
 use rvs_log::Reader;
+use rvs_points::Groups;
 use std::alloc::Global;
 
 /// The counts of points over a log that comes in pieces. It borrows the groups, and keeps no line

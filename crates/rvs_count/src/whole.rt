@@ -1,12 +1,12 @@
 // Counting in a log that is there whole.
 ghost use Rattle.std.specs.Prelude.{◌≡◌, ◌≤◌, ◌^◌, IfOk, length, map};
 ghost use Rattle.rvs_log.specs.Entries.{entries_of};
-ghost use Rattle.rvs_count.specs.Counting.{aims_in, count, kept};
+ghost use Rattle.rvs_index.specs.Counting.{aims_in, count, kept};
 ghost use Rattle.rvs_log.specs.Lines.{log_limit};
 
 use crate::counter::new_counter;
 use rvs_base::{Items, NoMemory, Window};
-use rvs_cgf::Groups;
+use rvs_points::Groups;
 use std::alloc::Global;
 
 /// How often each point was hit, and how many instructions there were.

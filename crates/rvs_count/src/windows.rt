@@ -1,7 +1,7 @@
 // Which addresses windows leave.
 ghost use Rattle.std.specs.Prelude.{◌≡◌};
 ghost use Rattle.std.specs.List.{list_any};
-ghost use Rattle.rvs_count.specs.Counting.{is_in, within};
+ghost use Rattle.rvs_index.specs.Counting.{is_in, within};
 
 use rvs_base::Window;
 

@@ -6,9 +6,9 @@ use Rattle.rvs_plan.specs.declared.stop.Stop.{Stop}
 use Rattle.rvs_plan.specs.declared.status.Finish.{Finish}
 use Rattle.rvs_log.specs.Entries.{entries_of}
 use Rattle.rvs_cgf.specs.Groups.{Label}
-use Rattle.rvs_count.specs.Counting.{aims_of, count, kept}
+use Rattle.rvs_index.specs.Counting.{aims_of, count, kept}
 use Rattle.rvs_count.specs.Report.{report_of}
-use Rattle.rvs_count.specs.State.{CountState, Tallied}
+use Rattle.rvs_index.specs.State.{CountState, Tallied}
 use Rattle.rvs_coverage.specs.declared.covering.Covered.{Covered}
 use Rattle.rvs_base.specs.declared.asked.Window.{Window}
 use Rattle.rvs_inputs.specs.GroupsView.{groups_view}

@@ -6,7 +6,7 @@ use Rattle.rvs_plan.specs.declared.stop.Stop.{Stop}
 use Rattle.rvs_plan.specs.declared.status.Finish.{Finish}
 use Rattle.rvs_log.specs.Entries.{entries_of}
 use Rattle.rvs_cgf.specs.Groups.{Label}
-use Rattle.rvs_count.specs.Counting.{aims_of}
+use Rattle.rvs_index.specs.Counting.{aims_of}
 use Rattle.rvs_prop.specs.Acts.{acts_of}
 use Rattle.rvs_prop.specs.Reach.{reached}
 use Rattle.rvs_prop.specs.Report.{report_of}

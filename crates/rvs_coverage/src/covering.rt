@@ -3,7 +3,7 @@ ghost use Rattle.std.specs.Prelude.{◌≡◌, IfOk, length};
 ghost use Rattle.rvs_base.specs.Sink.{SinkState};
 ghost use Rattle.rvs_plan.specs.World.{world};
 ghost use Rattle.rvs_plan.specs.Meets.{Meets};
-ghost use Rattle.rvs_count.specs.Counting.{aims_in};
+ghost use Rattle.rvs_index.specs.Counting.{aims_in};
 ghost use Rattle.rvs_inputs.specs.GroupsView.{groups_view};
 ghost use Rattle.rvs_coverage.specs.Coverage.{uncounted, report_on, measure, reported};
 ghost use Rattle.rvs_coverage.specs.Coverage.{file_name, counts_more, coverage, with_tally};

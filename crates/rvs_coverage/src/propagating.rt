@@ -3,7 +3,7 @@ ghost use Rattle.std.specs.Prelude.{◌≡◌, ℕ, IfOk, length, map};
 ghost use Rattle.rvs_base.specs.Sink.{SinkState};
 ghost use Rattle.rvs_plan.specs.World.{world};
 ghost use Rattle.rvs_plan.specs.Meets.{Meets};
-ghost use Rattle.rvs_count.specs.Counting.{aims_in};
+ghost use Rattle.rvs_index.specs.Counting.{aims_in};
 ghost use Rattle.rvs_inputs.specs.GroupsView.{groups_view};
 ghost use Rattle.rvs_coverage.specs.Propagate.{untracked, report_on, measure, reported, AreLong};
 ghost use Rattle.rvs_coverage.specs.Propagate.{file_name, tracks_more, propagate, with_trail};

@@ -1,6 +1,7 @@
 // Executables of images, which are edited and read again.
 use rvs_base::{Bytes, number_below, release};
 use rvs_elf::{ElfRefusal, read_elf, write_elf};
+use rvs_fault::{Fault, Refusal};
 use rvs_insn::USUAL_MEMORY;
 use rvs_machine::{Image, read_image};
 use std::alloc::Global;
@@ -64,14 +65,9 @@ fn spell_image(image: &Image, report: &mut String) -> Result<(), Fail> {
     Ok(())
 }
 
-fn spell_refusal(refusal: &ElfRefusal, report: &mut String) -> Result<(), Fail> {
-    write!(report, "elf {}", refusal.number())?;
-    match refusal {
-        ElfRefusal::BadSegment { index } => write!(report, " index {index}")?,
-        ElfRefusal::MissingSymbol { name } => write!(report, " name {}", name.as_str())?,
-        _ => {},
-    }
-    report.push_str("\n")?;
+fn spell_refusal(alloc: Global, refusal: &ElfRefusal, report: &mut String) -> Result<(), Fail> {
+    let text = refusal.text(alloc).map_err(|_| "no memory")?;
+    write!(report, "{text}\n")?;
     Ok(())
 }
 
@@ -80,7 +76,8 @@ fn tell_read(alloc: Global, bytes: &[u8], report: &mut String) -> Result<(), Fai
     write!(report, "{} bytes ", bytes.len())?;
     match read_elf(alloc, USUAL_MEMORY, bytes) {
         Ok(image) => spell_image(&image, report),
-        Err(refusal) => spell_refusal(&refusal, report),
+        Err(Fault::Refused(refusal)) => spell_refusal(alloc, &refusal, report),
+        Err(Fault::NoMemory) => Err(Fail::new("no memory")),
     }
 }
 

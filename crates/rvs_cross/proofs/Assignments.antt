@@ -11,7 +11,7 @@ use Rattle.rvs_cross.specs.declared.cross.Variable.TheVariants.{First, Second, T
 use Rattle.rvs_cross.specs.declared.cross.Place as code
 use Rattle.rvs_cross.specs.Cross.{Place}
 use Rattle.rvs_cross.specs.CrossView.{place_view}
-use Rattle.rvs_cross.specs.Windows.{says_of, is_used, choices_for, with_third, with_second}
+use Rattle.rvs_cross.specs.Windows.{says_of, is_used, choices_for, with_second}
 use Rattle.rvs_cross.specs.Windows.{values_among}
 use Rattle.rvs_cross.specs.Sequences.{middle_registers, assignments, bound, count_of}
 use Rattle.rvs_cross.specs.Sequences.{first_solutions, first_sequence}
@@ -52,12 +52,7 @@ sequence_is s ps a b c r e h =
 
 count_values : (a b c : List (Option ℕ))
     → length (flat_map (with_second b c) a) ≡ length a * (length b * length c)
-count_values a b c =
-    length-flat_map (with_second b c) a
-    ∙ sum_same _ (length b * length c)
-    (λ x. length-flat_map (with_third c x) b
-    ∙ sum_same _ (length c)
-    (λ y. length-map c (λ z. record { first = x; second = y; third = z })) b) a
+count_values a b c = grind (arith, length-flat_map, sum_same, length-map)
 
 regrouped : (a b c n : ℕ) → a * (b * (c * n)) ≡ a * (b * c) * n
 regrouped a b c n = omega arith

@@ -1,9 +1,9 @@
 -- The registers that make instructions match are those that the first assignments find.
-use Rattle.std.proofs.Common.{◌≡◌, ℕ, Bool, true, false, ◌&&◌, ◌||◌, cond, List, [], ◌∷◌, inl, inr}
+use Rattle.std.proofs.Common.{◌≡◌, ℕ, Bool, true, false, ◌&&◌, ◌||◌, cond, List, [], ◌∷◌}
 use Rattle.std.proofs.Common.{Option, Some, None, refl, sym, ap, ◌∙◌, subst, arith}
 use Rattle.std.specs.Prelude.{find, option_map}
 use Rattle.std.specs.List.{list_any, list_all, range_with_len}
-use Rattle.std.proofs.lemmas.Bool.{eqb-true, and_parts}
+use Rattle.std.proofs.lemmas.Bool.{and_parts}
 use Rattle.rvs_insn.specs.Fields.{Fields, IsRegister}
 use Rattle.rvs_cross.specs.declared.cross.Variable.{Variable}
 use Rattle.rvs_cross.specs.declared.cross.Variable.TheVariants.{First, Second, Third}
@@ -14,19 +14,11 @@ use Rattle.rvs_cross.specs.Windows.{meets, fits, all_fit, same_variable, says_of
 use Rattle.rvs_cross.specs.Windows.{choices_for, with_third, with_second, values_among, matches}
 use Rattle.rvs_cross.specs.Assigned.{register_by, assigned_in, assigned}
 use Rattle.rvs_cross.proofs.Members.{In, by_test, or_rest, in_any, any_in, in_map, map_in, in_flat}
-use Rattle.rvs_cross.proofs.Members.{flat_in, in_range}
+use Rattle.rvs_cross.proofs.Members.{flat_in}
 use Rattle.rvs_cross.proofs.Turns.{some_of}
 
 pub same_is : (x y : Variable) → same_variable x y ≡ true → y ≡ x
-same_is First First h = refl
-same_is First Second h = cc
-same_is First Third h = cc
-same_is Second First h = cc
-same_is Second Second h = refl
-same_is Second Third h = cc
-same_is Third First h = cc
-same_is Third Second h = cc
-same_is Third Third h = refl
+same_is x y h = grind arith
 
 -- ---- one place
 
@@ -37,14 +29,7 @@ pub record Bound (value found : Option ℕ) : Type 0 where
   pub found_is : found ≡ Some register
 
 one_register : (a b : Option ℕ) → same_register a b ≡ true → Bound a b
-one_register (Some r) (Some s) h = record {
-  register = r;
-  value_is = refl;
-  found_is = ap Some (sym (eqb-true r s h));
-}
-one_register (Some r) None h = cc
-one_register None (Some s) h = cc
-one_register None None h = cc
+one_register a b h = grind arith
 
 bound_in : (v : Values) (i : Fields) (x : Variable) (sets : List Assignment)
     → list_all (is_set v i) sets ≡ true
@@ -98,8 +83,7 @@ bound_where_used v x (p ∷ ps) (i ∷ is) a h =
     })
 
 neither : {P : Type 0} (a b : Bool) → (a || b) ≡ false → (a ≡ false → b ≡ false → P) → P
-neither true b h k = cc
-neither false b h k = k refl h
+neither h b = grind arith
 
 pub nothing_where_unused : (x : Variable) (ps : List Place) (is : List Fields)
     → is_used ps x ≡ false → assigned x ps is ≡ None
@@ -158,9 +142,7 @@ bound_values ps is = record {
 
 only_none : (registers : List ℕ) (used : Bool) (o : Option ℕ) → used ≡ false
     → In o (choices_for registers used) → o ≡ None
-only_none registers true o h i = cc
-only_none registers false o h (inl e) = sym e
-only_none registers false o h (inr i) = absurd i
+only_none registers used o h i = grind arith
 
 one_value : (registers : List ℕ) (v : Values) (x : Variable) (ps : List Place) (is : List Fields)
     → all_fit v ps (some_of is) ≡ true
@@ -184,11 +166,7 @@ values_are registers v ps is a among =
 
 choice_in : (o : Option ℕ) (used : Bool) → IsRegister o → (used ≡ true → (r : ℕ) × (o ≡ Some r))
     → (used ≡ false → o ≡ None) → In o (choices_for (range_with_len 0 32) used)
-choice_in (Some r) true low a b =
-    in_map (λ s. Some s) r (range_with_len 0 32) (in_range r 0 32 (omega arith) (omega arith))
-choice_in None true low a b = let e = (a refl).1 in cc
-choice_in (Some r) false low a b = let e = b refl in cc
-choice_in None false low a b = inl refl
+choice_in o used low a b = grind arith
 
 bound_choice : (x : Variable) (ps : List Place) (is : List Fields)
     → IsRegister (assigned x ps is) → all_fit (bound_values ps is) ps (some_of is) ≡ true
@@ -227,9 +205,7 @@ they_match ps is low a =
     })) a
 
 same_tests : (a b : Bool) → (a ≡ true → b ≡ true) → (b ≡ true → a ≡ true) → a ≡ b
-same_tests true b h k = sym (h refl)
-same_tests false true h k = k refl
-same_tests false false h k = refl
+same_tests a b h k = grind arith
 
 -- instructions match exactly where these registers make all fit
 pub matches_is : (ps : List Place) (is : List Fields) (fit : Bool) → Low ps is
@@ -242,18 +218,9 @@ matches_is ps is fit low h =
 pub found_match : (ps : List Place) (is : List Fields) (v : Values) (fit : Bool)
     → v ≡ bound_values ps is → IsRegister v.first → IsRegister v.second → IsRegister v.third
     → fit ≡ all_fit v ps (some_of is) → fit ≡ matches ps (some_of is)
-found_match ps is v fit e one two three h =
-    matches_is ps is fit
-    (let P : Values → Type 0 = λ w. IsRegister w.first × IsRegister w.second × IsRegister w.third in
-    let low = subst P e (one, two, three) in
-    record { first = low.0; second = low.1; third = low.2 })
-    (h ∙ ap (λ w. all_fit w ps (some_of is)) e)
+found_match ps is v fit e one two three h = grind (arith, matches_is, some_of)
 
 pub values_from : (ps : List Place) (is : List Fields) (a b c : Option ℕ) → a ≡ assigned First ps is
     → b ≡ assigned Second ps is → c ≡ assigned Third ps is
     → ◌≡◌ {A = Values} (record { first = a; second = b; third = c }) (bound_values ps is)
-values_from ps is a b c one two three =
-    ap (λ x. record { first = x; second = b; third = c }) one
-    ∙ ap (λ x. record { first = assigned First ps is; second = x; third = c }) two
-    ∙ ap (λ x. record { first = assigned First ps is; second = assigned Second ps is; third = x })
-    three
+values_from ps is a b c one two three = grind arith

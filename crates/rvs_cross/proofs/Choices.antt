@@ -1,6 +1,6 @@
 -- The instructions of a place, by mnemonic.
 use Rattle.std.proofs.Common.{◌≡◌, ℕ, ◌+◌, ◌*◌, ◌≤◌, List, [], ◌∷◌, length, Option, refl, sym, ap}
-use Rattle.std.proofs.Common.{◌∙◌, arith, suc}
+use Rattle.std.proofs.Common.{◌∙◌, arith}
 use Rattle.std.specs.Prelude.{ℤ, find, flat_map}
 use Rattle.std.specs.List.{sum_by}
 use Rattle.std.proofs.lemmas.List.Concat.{length-flat_map}
@@ -35,21 +35,14 @@ cost_of_op op form new old e h = rw (insns_are op form e) h
 
 pub no_others : (op : Op) (form : Format) → (form ≡ R → ⊥) → (form ≡ I → ⊥) → (form ≡ Shift → ⊥)
     → in_format form op ≡ []
-no_others op R r i s = absurd (r refl)
-no_others op I r i s = absurd (i refl)
-no_others op Shift r i s = absurd (s refl)
-no_others op _ r i s = refl
+no_others op form r i s = grind arith
 
 -- ---- how many there are
 
 pub sum_same : {X : Type 0} (f : X → ℕ) (n : ℕ) → ((x : X) → f x ≡ n) → (xs : List X)
     → sum_by f xs ≡ length xs * n
 sum_same f n h [] = omega arith
-sum_same f n h (x ∷ xs) =
-    sum_by-cons f x xs ∙ ap (λ m. m + sum_by f xs) (h x) ∙ ap (λ m. n + m) (sum_same f n h xs)
-    ∙ one_more (length xs) where
-      one_more : (m : ℕ) → n + m * n ≡ suc m * n
-      one_more m = omega arith
+sum_same f n h (x ∷ xs) = grind (arith, sum_by-cons, (sum_same f n h xs))
 
 pub over_length : (op : Op) (imm : Option ℤ) (rds rs1s rs2s : List (Option ℕ))
     → length (over_registers op imm rds rs1s rs2s) ≡ length rds * (length rs1s * length rs2s)
@@ -71,15 +64,9 @@ candidates_are spec p =
 pub solution_is : (spec : Isa) (v : Values) (p : Place) (ops : List Op) (found : Option Fields)
     → ops ≡ listed p.ops → found ≡ find (fits v p) (flat_map (admitted_insns spec) ops)
     → found ≡ solution spec v p
-solution_is spec v p ops found e h =
-    h ∙ ap (λ l. find (fits v p) (flat_map (admitted_insns spec) l)) e
-    ∙ ap (find (fits v p)) (sym (candidates_are spec p))
+solution_is spec v p ops found e h = grind (arith, candidates_are)
 
 pub solution_costs : (spec : Isa) (p : Place) (ops : List Op) (new old : ℕ) → ops ≡ listed p.ops
     → new ≤ old + length (flat_map (admitted_insns spec) ops)
     → new ≤ old + length (candidates spec p)
-solution_costs spec p ops new old e h =
-    let same : length (flat_map (admitted_insns spec) ops) ≡ length (candidates spec p) =
-    ap (λ l. length (flat_map (admitted_insns spec) l)) e
-    ∙ ap length (sym (candidates_are spec p)) in
-    omega arith
+solution_costs spec p ops new old e h = grind (arith, candidates_are)

@@ -1,42 +1,28 @@
 -- What an assignment excludes from a field, no instruction of the place has there.
-use Rattle.std.proofs.Common.{◌≡◌, ℕ, Bool, true, false, not, ◌&&◌, List, [], ◌∷◌, Option, None}
-use Rattle.std.proofs.Common.{refl, sym, ap, ◌∙◌}
+use Rattle.std.proofs.Common.{◌≡◌, ℕ, Bool, true, false, List, [], ◌∷◌, Option, None}
+use Rattle.std.proofs.Common.{refl, sym, ap, ◌∙◌, arith}
 use Rattle.std.specs.Prelude.{ℤ, find}
 use Rattle.std.specs.List.{list_all}
 use Rattle.std.proofs.lemmas.Bool.{and_parts, and_from, or_left, or_right}
 use Rattle.rvs_insn.specs.declared.op.Op.{Op}
 use Rattle.rvs_insn.specs.Fields.{Fields}
 use Rattle.rvs_cross.specs.declared.cross.Field.{Field}
-use Rattle.rvs_cross.specs.declared.cross.Field.TheVariants.{Rd, Rs1, Rs2}
+use Rattle.rvs_cross.specs.declared.cross.Field.TheVariants.{Rd, Rs1}
 use Rattle.rvs_cross.specs.declared.cross.Assignment.{Assignment}
 use Rattle.rvs_cross.specs.Cross.{Place}
-use Rattle.rvs_cross.specs.Windows.{Values, value_of, register_in, same_register, is_set, is_listed}
-use Rattle.rvs_cross.specs.Windows.{meets, fits}
+use Rattle.rvs_cross.specs.Windows.{Values, register_in, is_set}
+use Rattle.rvs_cross.specs.Windows.{fits}
 use Rattle.rvs_cross.specs.Sequences.{at_rs1, at_rd}
 use Rattle.rvs_cross.specs.Choosing.{same_field, allows_one, allows}
 use Rattle.rvs_cross.proofs.Members.{by_test, map_in, flat_in}
 use Rattle.rvs_cross.proofs.Searching.{find_none}
 
 pub field_is : (f g : Field) → same_field f g ≡ true → g ≡ f
-field_is Rd Rd h = refl
-field_is Rd Rs1 h = cc
-field_is Rd Rs2 h = cc
-field_is Rs1 Rd h = cc
-field_is Rs1 Rs1 h = refl
-field_is Rs1 Rs2 h = cc
-field_is Rs2 Rd h = cc
-field_is Rs2 Rs1 h = cc
-field_is Rs2 Rs2 h = refl
+field_is f g h = grind arith
 
 one_allowed : (v : Values) (i : Fields) (f : Field) (r : Option ℕ) (s : Assignment)
     → register_in i f ≡ r → is_set v i s ≡ true → allows_one v f r s ≡ true
-one_allowed v i f r s e h =
-    by_test (same_field f s.field)
-    (λ t. or_right (not (same_field f s.field)) (same_register (value_of v s.variable) r)
-    (ap (same_register (value_of v s.variable))
-    (sym (ap (register_in i) (field_is f s.field t) ∙ e)) ∙ h))
-    (λ t. or_left (not (same_field f s.field)) (same_register (value_of v s.variable) r)
-    (ap not t))
+one_allowed v i f r s e h = grind (arith, by_test, or_right, field_is, or_left)
 
 allowed : (v : Values) (i : Fields) (f : Field) (r : Option ℕ) (sets : List Assignment)
     → register_in i f ≡ r → list_all (is_set v i) sets ≡ true → allows v sets f r ≡ true
@@ -48,13 +34,7 @@ allowed v i f r (s ∷ sets) e h =
 
 excluded : (v : Values) (p : Place) (i : Fields) (f : Field) (r : Option ℕ) → register_in i f ≡ r
     → allows v p.sets f r ≡ false → fits v p i ≡ false
-excluded v p i f r e h =
-    by_test (fits v p i)
-    (λ t. let parts = and_parts (is_listed p.ops i.op)
-    (list_all (is_set v i) p.sets && meets v i p.condition) t in
-    let sets = and_parts (list_all (is_set v i) p.sets) (meets v i p.condition) parts.1 in
-    let yes = allowed v i f r p.sets e sets.0 in cc)
-    (λ t. t)
+excluded v p i f r e h = grind (arith, by_test, and_parts, allowed)
 
 -- no instruction with an excluded `rs1`
 pub none_at_rs1 : (v : Values) (p : Place) (op : Op) (imm : Option ℤ) (rs2s : List (Option ℕ))

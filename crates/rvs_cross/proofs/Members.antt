@@ -11,14 +11,12 @@ In x [] = ⊥
 In x (y ∷ ys) = (y ≡ x) ⊎ In x ys
 
 pub by_test : {P : Type 0} (t : Bool) → (t ≡ true → P) → (t ≡ false → P) → P
-by_test true h k = h refl
-by_test false h k = k refl
+by_test h e = grind arith
 
 -- ---- tests
 
 pub or_rest : (a b : Bool) → a ≡ false → (a || b) ≡ true → b ≡ true
-or_rest true b h e = cc
-or_rest false b h e = e
+or_rest a b h e = grind arith
 
 pub in_any : {X : Type 0} (q : X → Bool) (x : X) (xs : List X) → In x xs → q x ≡ true
     → list_any q xs ≡ true
@@ -52,8 +50,7 @@ in_right x (z ∷ xs) ys i = inr (in_right x xs ys i)
 pub in_either : {X : Type 0} (x : X) (xs ys : List X) → In x (xs ++ ys) → In x xs ⊎ In x ys
 in_either x [] ys i = inr i
 in_either x (z ∷ xs) ys (inl e) = inl (inl e)
-in_either x (z ∷ xs) ys (inr i) =
-    elim (in_either x xs ys i) [ inl l ↦ inl (inr l) | inr r ↦ inr r ]
+in_either x (z ∷ xs) ys (inr i) = grind (arith, inl, inr, (in_either x xs ys i))
 
 pub in_map : {X Y : Type 0} (f : X → Y) (x : X) (xs : List X) → In x xs → In (f x) (map f xs)
 in_map f x [] i = absurd i
@@ -68,14 +65,12 @@ pub record Mapped {X Y : Type 0} (f : X → Y) (xs : List X) (y : Y) : Type 0 wh
 pub map_in : {X Y : Type 0} (f : X → Y) (xs : List X) (y : Y) → In y (map f xs) → Mapped f xs y
 map_in f [] y i = absurd i
 map_in f (x ∷ xs) y (inl e) = record { item = x; among = inl refl; is = e }
-map_in f (x ∷ xs) y (inr i) = let m = map_in f xs y i in
-    record { item = m.item; among = inr m.among; is = m.is }
+map_in f (x ∷ xs) y (inr i) = grind (arith, inr, (map_in f xs y i))
 
 pub in_flat : {X Y : Type 0} (f : X → List Y) (x : X) (y : Y) (xs : List X) → In x xs → In y (f x)
     → In y (flat_map f xs)
 in_flat f x y [] i j = absurd i
-in_flat f x y (z ∷ xs) (inl e) j =
-    in_left y (f z) (flat_map f xs) (rw e j)
+in_flat f x y (z ∷ xs) (inl e) j = grind (arith, in_left)
 in_flat f x y (z ∷ xs) (inr i) j = in_right y (f z) (flat_map f xs) (in_flat f x y xs i j)
 
 pub record Spread {X Y : Type 0} (f : X → List Y) (xs : List X) (y : Y) : Type 0 where
@@ -102,8 +97,3 @@ in_range r a (suc n) h k =
       | inl e ↦ inl e.1
       | inr e ↦ inr (let ne : a ≢ r = e.1 in in_range r (a + 1) n (omega arith) (omega arith))
     ]
-
-pub range_in : (r a n : ℕ) → In r (range_with_len a n) → (a ≤ r) × (r < a + n)
-range_in r a zero i = absurd i
-range_in r a (suc n) (inl e) = (omega arith, omega arith)
-range_in r a (suc n) (inr i) = let b = range_in r (a + 1) n i in (omega arith, omega arith)

@@ -1,9 +1,8 @@
 -- What names stand for in a list is what they stand for.
-use Rattle.std.proofs.Common.{◌≡◌, ℕ, List, Option, None, refl, ap, ◌∙◌}
+use Rattle.std.proofs.Common.{◌≡◌, ℕ, List, Option, None, ap, ◌∙◌, arith}
 use Rattle.std.specs.Prelude.{slice_index_or}
 use Rattle.rvs_insn.specs.Fields.{Fields}
 use Rattle.rvs_expr_text.specs.declared.lexeme.RegName.{RegName}
-use Rattle.rvs_expr_text.specs.declared.lexeme.RegName.TheVariants.{Rd, Rs1, Rs2, Var0, Var1, Var2}
 use Rattle.rvs_expr.specs.Typed.{Formula}
 use Rattle.rvs_expr.specs.Meaning.{holds}
 use Rattle.rvs_expr.specs.Total.{reg_place}
@@ -12,12 +11,7 @@ use Rattle.rvs_cross.specs.Listed.{registers_of, listed}
 
 same_name : (v : Values) (i : Fields) (r : RegName)
     → slice_index_or (registers_of v i) (reg_place r) None ≡ named v i r
-same_name v i Rd = refl
-same_name v i Rs1 = refl
-same_name v i Rs2 = refl
-same_name v i Var0 = refl
-same_name v i Var1 = refl
-same_name v i Var2 = refl
+same_name v i r = grind arith
 
 same_facts : (v : Values) (i : Fields) → listed (registers_of v i) ≡ facts_with v i
 same_facts v i = λ k. record { reg = λ r. same_name v i r k; num = λ _. None }

@@ -1,8 +1,7 @@
 -- The variables are at most three.
-use Rattle.std.proofs.Common.{◌≡◌, ℕ, ◌<◌, ◌≤◌, Bool, true, false, List, [], ◌∷◌, ◌++◌, length}
-use Rattle.std.proofs.Common.{length-append, Some, None, Ok, Err, refl, subst, arith}
+use Rattle.std.proofs.Common.{◌≡◌, ℕ, ◌≤◌, Bool, List, [], ◌∷◌, ◌++◌, length}
+use Rattle.std.proofs.Common.{length-append, Some, None, Ok, Err, refl, arith, rules}
 use Rattle.std.specs.Prelude.{nat_lt, if◌then◌else◌}
-use Rattle.std.proofs.lemmas.Bool.Decides.{nat_tests}
 use Rattle.rvs_cross.specs.declared.refusal.CrossRefusal.TheVariants.{TooManyVariables}
 use Rattle.rvs_text.specs.Outcomes.{◌>>=◌}
 use Rattle.rvs_cross.specs.Outcomes.{Outcome, for_each}
@@ -22,11 +21,7 @@ AreFew (Err e) = Unit {0}
 noted-few : (b c : Bool) (name : List ℕ) (names : Names) → nat_lt (length names) 3 ≡ c
     → length names ≤ 3
     → AreFew (if b then Ok names else (if c then Ok (names ++ name ∷ []) else Err TooManyVariables))
-noted-few true c name names e h = h
-noted-few false true name names e h =
-    let small : length names < 3 = grind (arith, nat_tests) in
-    omega (arith, length-append names (name ∷ []))
-noted-few false false name names e h = tt
+noted-few b c name names e h = search (rules, length-append)
 
 note-few : (name : List ℕ) (names : Names) → length names ≤ 3 → AreFew (note name names)
 note-few name names h = noted-few (is_noted names name) (nat_lt (length names) 3) name names refl h
@@ -40,20 +35,17 @@ part-few part names h =
 
 then-few : (f : Names → Outcome Names) (o : Outcome Names)
     → ((names : Names) → length names ≤ 3 → AreFew (f names)) → AreFew o → AreFew (o >>= f)
-then-few f (Ok names) each h = each names h
-then-few f (Err e) each h = tt
+then-few f o each h = grind arith
 
 each-few : (f : List ℕ → Names → Outcome Names)
     → ((x : List ℕ) (names : Names) → length names ≤ 3 → AreFew (f x names))
     → (xs : List (List ℕ)) (names : Names) → length names ≤ 3 → AreFew (for_each f xs names)
 each-few f each [] names h = h
-each-few f each (x ∷ xs) names h =
-    then-few (for_each f xs) (f x names) (each-few f each xs) (each x names h)
+each-few f each (x ∷ xs) names h = grind (arith, then-few, (each-few f each xs))
 
 entry-few : (entry : List ℕ) (names : Names) → length names ≤ 3 → AreFew (note_entry entry names)
 entry-few entry names h = each-few note_part part-few (parts 59 entry) names h
 
 pub at_most_three : (entries : List (List ℕ)) (names : Names) → variables entries ≡ Ok names
     → length names ≤ 3
-at_most_three entries names e =
-    subst AreFew e (each-few note_entry entry-few entries [] (omega arith))
+at_most_three entries names e = grind (arith, each-few, entry-few)

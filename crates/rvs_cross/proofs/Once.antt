@@ -1,18 +1,16 @@
 -- Lists that keep each element once, made by adding one element after another.
-use Rattle.std.proofs.Common.{◌≡◌, ℕ, ◌+◌, ◌<◌, ◌≤◌, Bool, true, false, not, ◌&&◌, ◌||◌, cond, List}
+use Rattle.std.proofs.Common.{◌≡◌, ℕ, ◌+◌, ◌<◌, ◌≤◌, Bool, true, false, not, ◌&&◌, ◌||◌, List}
 use Rattle.std.proofs.Common.{[], ◌∷◌, ◌++◌, length, get_or, drop, refl, sym, ap, ◌∙◌}
-use Rattle.std.proofs.Common.{append_assoc, append-nil}
-use Rattle.std.specs.Prelude.{filter, if◌then◌else◌, ◌==◌}
+use Rattle.std.proofs.Common.{append_assoc, append-nil, arith, rules}
+use Rattle.std.specs.Prelude.{filter, if◌then◌else◌}
 use Rattle.std.specs.List.{list_any}
 use Rattle.std.proofs.lemmas.Bool.{eqb-true, and_parts}
 use Rattle.std.proofs.lemmas.List.{drop_all}
 use Rattle.std.proofs.lemmas.List.Folds.{list_any-append}
-use Rattle.rvs_facts.specs.Mnemonics.{is_same, number}
+use Rattle.rvs_facts.specs.Mnemonics.{is_same}
 use Rattle.rvs_cross.specs.declared.cross.Assignment.{Assignment}
-use Rattle.rvs_cross.specs.Choosing.{same_field}
 use Rattle.rvs_cross.specs.Once.{each_once, with_one}
 use Rattle.rvs_cross.specs.Variables.{same_set}
-use Rattle.rvs_cross.specs.Windows.{same_variable}
 use Rattle.rvs_cross.proofs.Binding.{same_is}
 use Rattle.rvs_cross.proofs.Excluding.{field_is}
 use Rattle.rvs_cross.proofs.Members.{by_test, in_any, any_in}
@@ -34,14 +32,7 @@ with_rest same kept xs = kept ++ filter (is_new same kept) (each_once same xs)
 filter_twice : {X : Type 0} (p q r : X → Bool) → ((y : X) → (q y && p y) ≡ r y) → (xs : List X)
     → filter p (filter q xs) ≡ filter r xs
 filter_twice p q r h [] = refl
-filter_twice p q r h (y ∷ ys) =
-    by_first (q y)
-    ∙ ap (λ b. cond b (y ∷ filter p (filter q ys)) (filter p (filter q ys))) (h y)
-    ∙ ap (λ l. cond (r y) (y ∷ l) l) (filter_twice p q r h ys) where
-      by_first : (b : Bool) → filter p (cond b (y ∷ filter q ys) (filter q ys))
-          ≡ cond (b && p y) (y ∷ filter p (filter q ys)) (filter p (filter q ys))
-      by_first true = refl
-      by_first false = refl
+filter_twice p q r h (y ∷ ys) = grind (arith, (filter_twice p q r h ys))
 
 all_pass : {X : Type 0} (xs : List X) → filter (λ y. true) xs ≡ xs
 all_pass [] = refl
@@ -50,9 +41,7 @@ all_pass (x ∷ xs) = ap (λ l. x ∷ l) (all_pass xs)
 -- ---- one element
 
 hidden : (a b : Bool) → b ≡ true → (not a && not b) ≡ not b
-hidden true true h = refl
-hidden false true h = refl
-hidden a false h = cc
+hidden a b h = grind arith
 
 -- what is the same as a kept element isn't new
 covered : {X : Type 0} (same : X → X → Bool) → IsTransitive same → (kept : List X) (x : X)
@@ -66,35 +55,16 @@ covered same t kept x h y =
     (λ e. ap (λ b. not b && is_new same kept y) e)
 
 by_both : (a b : Bool) → (not a && not b) ≡ not (b || (a || false))
-by_both true true = refl
-by_both true false = refl
-by_both false true = refl
-by_both false false = refl
+by_both a b = grind arith
 
 with_more : {X : Type 0} (same : X → X → Bool) (kept : List X) (x y : X)
     → (not (same x y) && is_new same kept y) ≡ is_new same (kept ++ x ∷ []) y
-with_more same kept x y =
-    by_both (same x y) (list_any (λ o. same o y) kept)
-    ∙ ap not (sym (list_any-append (λ o. same o y) kept (x ∷ [])))
+with_more same kept x y = simp (by_both, list_any-append)
 
 with_next : {X : Type 0} (same : X → X → Bool) → IsTransitive same → (kept : List X) (x : X)
     (xs : List X) (b : Bool) → list_any (λ o. same o x) kept ≡ b
     → with_rest same (if b then kept else (kept ++ x ∷ [])) xs ≡ with_rest same kept (x ∷ xs)
-with_next same t kept x xs true e =
-    let others = filter (λ y. not (same x y)) (each_once same xs) in
-    let new = filter (is_new same kept) others in
-    ap (λ l. kept ++ l)
-    (sym (filter_twice (is_new same kept) (λ y. not (same x y)) (is_new same kept)
-    (covered same t kept x e) (each_once same xs)))
-    ∙ ap (λ b. kept ++ cond (not b) (x ∷ new) new) (sym e)
-with_next same t kept x xs false e =
-    let others = filter (λ y. not (same x y)) (each_once same xs) in
-    let new = filter (is_new same kept) others in
-    append_assoc kept (x ∷ []) (filter (is_new same (kept ++ x ∷ [])) (each_once same xs))
-    ∙ ap (λ l. kept ++ (x ∷ l))
-    (sym (filter_twice (is_new same kept) (λ y. not (same x y)) (is_new same (kept ++ x ∷ []))
-    (with_more same kept x) (each_once same xs)))
-    ∙ ap (λ b. kept ++ cond (not b) (x ∷ new) new) (sym e)
+with_next same kept x xs b h = search (rules, filter_twice, covered, append_assoc, with_more)
 
 -- ---- a loop over a list
 
@@ -105,29 +75,19 @@ none_kept same kept xs e = ap (λ l. with_rest same l xs) e ∙ all_pass (each_o
 pub turn : {X : Type 0} (same : X → X → Bool) → IsTransitive same → (xs : List X) (k : ℕ) (d : X)
     (kept next whole : List X) → k < length xs → with_rest same kept (drop k xs) ≡ whole
     → next ≡ with_one same kept (get_or xs k d) → with_rest same next (drop (k + 1) xs) ≡ whole
-turn same t xs k d kept next whole h w e =
-    ap (λ l. with_rest same l (drop (k + 1) xs)) e
-    ∙ with_next same t kept (get_or xs k d) (drop (k + 1) xs)
-    (list_any (λ o. same o (get_or xs k d)) kept) refl
-    ∙ ap (with_rest same kept) (sym (rest_at xs k d h)) ∙ w
+turn same t xs k d kept next whole h w e = grind (arith, with_next, rest_at)
 
 pub all_kept : {X : Type 0} (same : X → X → Bool) (xs : List X) (k : ℕ) (kept whole : List X)
     → length xs ≤ k → with_rest same kept (drop k xs) ≡ whole → kept ≡ whole
-all_kept same xs k kept whole h w =
-    sym (append-nil kept) ∙ ap (with_rest same kept) (sym (drop_all k xs h)) ∙ w
+all_kept same xs k kept whole h w = grind (arith, append-nil, drop_all)
 
 -- ---- mnemonics and assignments
 
 pub ops_join : IsTransitive is_same
-ops_join = record {
-  joins = λ x y z h k. ap (λ n. n == number z) (eqb-true (number x) (number y) h) ∙ k;
-}
+ops_join = grind (arith, eqb-true)
 
 set_is : (s t : Assignment) → same_set s t ≡ true → t ≡ s
-set_is s t h =
-    let both = and_parts (same_variable s.variable t.variable) (same_field s.field t.field) h in
-    ap (λ v. record { variable = v; field = t.field }) (same_is s.variable t.variable both.0)
-    ∙ ap (λ f. record { variable = s.variable; field = f }) (field_is s.field t.field both.1)
+set_is s t h = grind (arith, and_parts, same_is, field_is)
 
 pub sets_join : IsTransitive same_set
 sets_join = record { joins = λ x y z h k. ap (λ s. same_set s z) (sym (set_is x y h)) ∙ k }

@@ -1,7 +1,6 @@
 -- The places of three lists, one after another.
 use Rattle.std.proofs.Common.{◌≡◌, ℕ, ◌+◌, ◌<◌, ◌≤◌, List, [], ◌∷◌, ◌++◌, map, drop, length, get_or}
-use Rattle.std.proofs.Common.{Bor, Ok, Err, refl, sym, ap, ◌∙◌, append_assoc, add-one, arith}
-use Rattle.std.specs.Prelude.{◌==◌}
+use Rattle.std.proofs.Common.{Bor, Ok, Err, sym, ap, ◌∙◌, append_assoc, add-one, arith, rules}
 use Rattle.std.proofs.Math.Seq.{drop-cons}
 use Rattle.std.proofs.lemmas.List.{length-map}
 use Rattle.std.proofs.lemmas.List.Splits.{length-slice_split}
@@ -24,14 +23,11 @@ texts xs = map (λ t. t.now) xs
 
 texts-at : (xs : Refs) (i : ℕ) (d : Bor (List ℕ)) → i < length xs
     → texts (drop i xs) ≡ (get_or xs i d).now ∷ texts (drop (i + 1) xs)
-texts-at xs i d h =
-    let front : drop i xs ≡ get_or xs i d ∷ drop (i + 1) xs = rw add-one (drop-cons xs i d h) in
-    ap texts front
+texts-at xs i d h = grind (arith, add-one, drop-cons)
 
 front-one : (ps : List Place) (p : Place) (o : Outcome (List Place))
     → with_front (ps ++ p ∷ []) o ≡ with_front ps (o >>= (λ qs. Ok (p ∷ qs)))
-front-one ps p (Ok qs) = ap Ok (append_assoc ps (p ∷ []) qs)
-front-one ps p (Err e) = refl
+front-one ps p o = search (rules, append_assoc)
 
 abbrev joined : Outcome Place → Outcome (List Place) → Outcome (List Place)
 joined o rest = o >>= (λ p. rest >>= (λ qs. Ok (p ∷ qs)))
@@ -42,14 +38,7 @@ at : (vars : List (List ℕ)) (a b c : Refs) (i : ℕ) (d : Bor (List ℕ)) → 
     places vars (texts (drop i a)) (texts (drop i b)) (texts (drop i c))
     ≡ joined (place vars (get_or a i d).now (get_or b i d).now (get_or c i d).now)
     (places vars (texts (drop (i + 1) a)) (texts (drop (i + 1) b)) (texts (drop (i + 1) c)))
-at vars a b c i d h e f =
-    let hb : i < length b = omega arith in
-    let hc : i < length c = omega arith in
-    ap (λ xs. places vars xs (texts (drop i b)) (texts (drop i c))) (texts-at a i d h)
-    ∙ ap (λ ys. places vars ((get_or a i d).now ∷ texts (drop (i + 1) a)) ys (texts (drop i c)))
-    (texts-at b i d hb)
-    ∙ ap (λ zs. places vars ((get_or a i d).now ∷ texts (drop (i + 1) a))
-    ((get_or b i d).now ∷ texts (drop (i + 1) b)) zs) (texts-at c i d hc)
+at vars a b c i d h e f = grind (arith, texts-at)
 
 pub places_more : (vars : List (List ℕ)) (a b c : Refs) (i : ℕ) (d : Bor (List ℕ)) (ps : List Place)
     (p : Place) → i < length a → length b ≡ length a → length c ≡ length a →
@@ -65,9 +54,4 @@ places_more vars a b c i d ps p h e f is =
 
 -- a list has an entry
 pub some_entry : (xs : Refs) (text : List ℕ) → texts xs ≡ entries text → 1 ≤ length xs
-some_entry xs text e = omega (
-  arith,
-  length-map xs (λ (t : Bor (List ℕ)). t.now),
-  ap length e,
-  length-slice_split (λ c. c == 58) text,
-)
+some_entry xs text e = grind (arith, length-map, length-slice_split)

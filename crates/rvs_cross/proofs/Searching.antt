@@ -20,8 +20,7 @@ rest_at xs k d h = rw (add-one, drop-cons xs k d)
 find_turn : {X Y : Type 0} (p : Y → Bool) (f : X → List Y) (xs : List X) (k : ℕ) (d : X)
     → k < length xs → find p (flat_map f (drop k xs))
     ≡ option_or (find p (f (get_or xs k d))) (find p (flat_map f (drop (k + 1) xs)))
-find_turn p f xs k d h = ap (λ l. find p (flat_map f l)) (rest_at xs k d h)
-    ∙ find-append p (f (get_or xs k d)) (flat_map f (drop (k + 1) xs))
+find_turn p f xs k d h = grind (arith, rest_at, find-append)
 
 pub turn_found : {X Y : Type 0} (p : Y → Bool) (f : X → List Y) (xs : List X) (k : ℕ) (d : X)
     (y : Y) (whole : Option Y) → k < length xs → whole ≡ find p (flat_map f (drop k xs))
@@ -40,15 +39,13 @@ turn_none p f xs k d whole h inv e =
 pub find_none : {X : Type 0} (p : X → Bool) (xs : List X) → ((x : X) → In x xs → p x ≡ false)
     → find p xs ≡ None
 find_none p [] h = refl
-find_none p (x ∷ xs) h = ap (λ t. cond t (Some x) (find p xs)) (h x (inl refl))
-    ∙ find_none p xs (λ y i. h y (inr i))
+find_none p (x ∷ xs) h = grind (arith, inl, inr, (find_none p xs (λ y i. h y (inr i))))
 
 -- ---- costs
 
 pub within_rows : (new before entry k n each : ℕ) → k < n → before ≤ entry + k * each
     → new ≤ before + each → new ≤ entry + n * each
-within_rows new before entry k n each h a b = let e : each * (k + 1) ≤ each * n =
-    mul-le-mul_left each (omega arith) in omega (arith, e)
+within_rows new before entry k n each h a b = grind (arith, mul-le-mul_left)
 
 pub sum_turn : {X : Type 0} (f : X → ℕ) (xs : List X) (k : ℕ) (d : X) (new before entry : ℕ)
     → k < length xs → before ≤ entry + sum_by f (take k xs) → new ≤ before + f (get_or xs k d)
@@ -58,8 +55,7 @@ sum_turn f xs k d new before entry h a b = omega (arith, sum_by_more f xs k d h)
 pub all_flat : {X Y : Type 0} (f : X → List Y) (xs : List X) (k : ℕ) (new entry : ℕ)
     → new ≤ entry + sum_by (λ x. length (f x)) (take k xs)
     → new ≤ entry + length (flat_map f xs)
-all_flat f xs k new entry h =
-    omega (arith, length-flat_map f xs, sum_by-take-le (λ x. length (f x)) xs k)
+all_flat f xs k new entry h = grind (arith, length-flat_map, sum_by-take-le)
 
 pub within_flat : {X Y : Type 0} (f : X → List Y) (xs : List X) (k : ℕ) (d : X)
     (new before entry : ℕ) → k < length xs
@@ -73,12 +69,10 @@ within_flat f xs k d new before entry h a b =
 picked : {X Y : Type 0} (f : X → List Y) (g : Bool → X → List Y)
     → ((x : X) → g true x ≡ f x) → ((x : X) → g false x ≡ []) → (t : Bool) (x : X) (xs : List X)
     → flat_map f (cond t (x ∷ xs) xs) ≡ g t x ++ flat_map f xs
-picked f g kept gone true x xs = ap (λ l. l ++ flat_map f xs) (sym (kept x))
-picked f g kept gone false x xs = ap (λ l. l ++ flat_map f xs) (sym (gone x))
+picked f g t x xs = grind arith
 
 pub flat_filter : {X Y : Type 0} (f : X → List Y) (g : Bool → X → List Y) (q : X → Bool)
     → ((x : X) → g true x ≡ f x) → ((x : X) → g false x ≡ []) → (xs : List X)
     → flat_map f (filter q xs) ≡ flat_map (λ x. g (q x) x) xs
 flat_filter f g q kept gone [] = refl
-flat_filter f g q kept gone (x ∷ xs) = picked f g kept gone (q x) x (filter q xs)
-    ∙ ap (λ l. g (q x) x ++ l) (flat_filter f g q kept gone xs)
+flat_filter f g q kept gone (x ∷ xs) = grind (arith, picked, (flat_filter f g q kept gone xs))

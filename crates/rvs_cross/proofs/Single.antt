@@ -1,9 +1,9 @@
 -- Where no variable has two assignments, they all hold once each variable stands for a register.
 use Rattle.std.proofs.Common.{◌≡◌, ℕ, Bool, true, false, not, ◌&&◌, cond, List, [], ◌∷◌, map}
-use Rattle.std.proofs.Common.{Option, Some, None, refl, sym, ap, ◌∙◌}
+use Rattle.std.proofs.Common.{Option, Some, None, refl, sym, ap, ◌∙◌, arith}
 use Rattle.std.specs.Prelude.{find, option_map}
 use Rattle.std.specs.List.{list_all}
-use Rattle.std.proofs.lemmas.Bool.{eq-eqb, and_parts, or_left, or_right}
+use Rattle.std.proofs.lemmas.Bool.{and_parts, or_left, or_right, and_from}
 use Rattle.rvs_insn.specs.Fields.{Fields, IsRegister}
 use Rattle.rvs_expr.specs.TypedView as typed
 use Rattle.rvs_cross.specs.declared.cross.Variable.{Variable}
@@ -23,29 +23,20 @@ use Rattle.rvs_cross.proofs.Assignments.{used_map}
 use Rattle.rvs_cross.proofs.Binding.{same_is, next, bound_values, bound_where_used, found_match}
 
 same_self : (x : Variable) → same_variable x x ≡ true
-same_self First = refl
-same_self Second = refl
-same_self Third = refl
+same_self x = grind arith
 
 clash : {P : Type 0} (b : Bool) → b ≡ true → b ≡ false → P
-clash true t f = cc
-clash false t f = cc
+clash h t = grind arith
 
 not_true : (b : Bool) → not b ≡ true → b ≡ false
-not_true true h = cc
-not_true false h = refl
-
-and_both : (a b : Bool) → a ≡ true → b ≡ true → (a && b) ≡ true
-and_both true b h k = k
-and_both false b h k = cc
+not_true b h = grind arith
 
 abbrev is_there : Option ℕ → Bool
 is_there None = false
 is_there (Some r) = true
 
 same_there : (a b : Option ℕ) → a ≡ b → is_there a ≡ true → same_register a b ≡ true
-same_there None b e h = cc
-same_there (Some r) b e h = ap (same_register (Some r)) (sym e) ∙ eq-eqb r r refl
+same_there a b e h = grind arith
 
 -- ---- one place
 abbrev found_in : Fields → Option Assignment → Option ℕ
@@ -56,11 +47,7 @@ others x sets = find (λ (s : Assignment). same_variable x s.variable) sets
 
 other_variable : (x : Variable) (s : Assignment) (sets : List Assignment)
     → says_in s.variable sets ≡ false → says_in x sets ≡ true → same_variable x s.variable ≡ false
-other_variable x s sets f h =
-    by_test (same_variable x s.variable)
-    (λ same. clash (says_in s.variable sets)
-    (ap (λ y. says_in y sets) (same_is x s.variable same) ∙ h) f)
-    (λ other. other)
+other_variable x s sets f h = grind (arith, by_test, clash, same_is)
 
 sets_hold : (v : Values) (i : Fields) (sets : List Assignment) → once_among sets ≡ true
     → ((x : Variable) → says_in x sets ≡ true → value_of v x ≡ assigned_in x sets i)
@@ -73,7 +60,7 @@ sets_hold v i (s ∷ sets) o e h =
     let here : says_in s.variable (s ∷ sets) ≡ true =
     or_left (same_variable s.variable s.variable) (says_in s.variable sets)
     (same_self s.variable) in
-    and_both (is_set v i s) (list_all (is_set v i) sets)
+    and_from (is_set v i s) (list_all (is_set v i) sets)
     (same_there (value_of v s.variable) (register_in i s.field)
     (e s.variable here
     ∙ ap (λ c. found_in i (cond c (Some s) (others s.variable sets))) (same_self s.variable))
@@ -134,32 +121,18 @@ pub record AreLow (v : Values) : Type 0 where
 abbrev all_bound : Bool → Bool → Bool → Values → Bool
 all_bound a b c v = is_bound a v.first && (is_bound b v.second && is_bound c v.third)
 
-there_by : (used : Bool) (o : Option ℕ) → is_bound used o ≡ true → used ≡ true → is_there o ≡ true
-there_by used (Some r) h u = refl
-there_by true None h u = cc
-there_by false None h u = cc
-
 bound_by : (used : Bool) (o : Option ℕ) → (used ≡ true → is_there o ≡ true) → is_bound used o ≡ true
-bound_by used (Some r) h = refl
-bound_by true None h = let e = h refl in cc
-bound_by false None h = refl
+bound_by used o h = grind arith
 
 value_is : (v : Values) (ps : List Place) (is : List Fields)
     → v ≡ bound_values (map place_view ps) is → (x : Variable)
     → value_of v x ≡ assigned x (map place_view ps) is
-value_is v ps is e First = ap (λ w. w.first) e
-value_is v ps is e Second = ap (λ w. w.second) e
-value_is v ps is e Third = ap (λ w. w.third) e
+value_is v ps is e x = grind arith
 
 there : (v : Values) (ps : List Place) (a b c : Bool) → Kept ps a b c
     → is_bound a v.first ≡ true → is_bound b v.second ≡ true → is_bound c v.third ≡ true
     → (x : Variable) → is_used ps x ≡ true → is_there (value_of v x) ≡ true
-there v ps a b c kept one two three First used =
-    there_by a v.first one (kept.first ∙ used)
-there v ps a b c kept one two three Second used =
-    there_by b v.second two (kept.second ∙ used)
-there v ps a b c kept one two three Third used =
-    there_by c v.third three (kept.third ∙ used)
+there v ps a b c kept one two three x used = grind arith
 
 pub single_match : (ps : List Place) (is : List Fields) (v : Values) (a b c fit : Bool)
     → v ≡ bound_values (map place_view ps) is → AreLow v → Kept ps a b c
@@ -167,11 +140,7 @@ pub single_match : (ps : List Place) (is : List Fields) (v : Values) (a b c fit 
     → fit ≡ all_fit v (map bare_view ps) (some_of is)
     → fit ≡ matches (map place_view ps) (some_of is)
 single_match ps is v a b c fit e low kept bound once h =
-    let one = and_parts (is_bound a v.first) (is_bound b v.second && is_bound c v.third) bound in
-    let two = and_parts (is_bound b v.second) (is_bound c v.third) one.1 in
-    found_match (map place_view ps) is v fit e low.first low.second low.third
-    (h ∙ sym (fit_bare v ps is once (λ x used. value_is v ps is e x)
-    (λ x used. there v ps a b c kept one.0 two.0 two.1 x used)))
+    grind (arith, and_parts, found_match, fit_bare, value_is, there)
 
 all_fit_bound : (ps : List Place) (is : List Fields) (v : Values) (x : Variable) (used : Bool)
     → used ≡ is_used ps x → all_fit v (map place_view ps) (some_of is) ≡ true
@@ -185,12 +154,4 @@ pub unbound_match : (ps : List Place) (is : List Fields) (v : Values) (a b c : B
     → v ≡ bound_values (map place_view ps) is → AreLow v → Kept ps a b c
     → all_bound a b c v ≡ false → false ≡ matches (map place_view ps) (some_of is)
 unbound_match ps is v a b c e low kept unbound =
-    found_match (map place_view ps) is v false e low.first low.second low.third
-    (by_test (all_fit v (map place_view ps) (some_of is))
-    (λ fit. clash (all_bound a b c v)
-    (and_both (is_bound a v.first) (is_bound b v.second && is_bound c v.third)
-    (all_fit_bound ps is v First a kept.first fit)
-    (and_both (is_bound b v.second) (is_bound c v.third)
-    (all_fit_bound ps is v Second b kept.second fit)
-    (all_fit_bound ps is v Third c kept.third fit))) unbound)
-    (λ none. sym none))
+    grind (arith, found_match, by_test, some_of, clash, and_from, all_fit_bound)

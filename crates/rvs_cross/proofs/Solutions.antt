@@ -1,6 +1,6 @@
 -- Turns of the search for instructions of all places.
 use Rattle.std.proofs.Common.{◌≡◌, ℕ, ◌+◌, ◌<◌, List, [], ◌∷◌, ◌++◌, length, get_or, drop, Option}
-use Rattle.std.proofs.Common.{Some, None, refl, sym, ap, ◌∙◌}
+use Rattle.std.proofs.Common.{Some, None, refl, sym, ap, ◌∙◌, arith}
 use Rattle.std.specs.Prelude.{flat_map}
 use Rattle.rvs_insn.specs.Isa.{Isa}
 use Rattle.rvs_insn.specs.Fields.{Fields}
@@ -28,20 +28,13 @@ first_append : (s : Isa) (ps : List spec.Place) (vs ws : List Values)
     → first_solutions s ps (vs ++ ws)
     ≡ first_of (first_solutions s ps vs) (first_solutions s ps ws)
 first_append s ps [] ws = refl
-first_append s ps (v ∷ vs) ws =
-    ap (first_of (solutions s v ps)) (first_append s ps vs ws)
-    ∙ of_three (solutions s v ps) (first_solutions s ps vs) (first_solutions s ps ws) where
-      of_three : (a b c : Option (List Fields))
-          → first_of a (first_of b c) ≡ first_of (first_of a b) c
-      of_three None b c = refl
-      of_three (Some is) b c = refl
+first_append s ps (v ∷ vs) ws = grind (arith, (first_append s ps vs ws))
 
 first_turn : {X : Type 0} (s : Isa) (ps : List spec.Place) (f : X → List Values) (xs : List X)
     (k : ℕ) (d : X) → k < length xs → first_solutions s ps (flat_map f (drop k xs))
     ≡ first_of (first_solutions s ps (f (get_or xs k d)))
     (first_solutions s ps (flat_map f (drop (k + 1) xs)))
-first_turn s ps f xs k d h = ap (λ l. first_solutions s ps (flat_map f l)) (rest_at xs k d h)
-    ∙ first_append s ps (f (get_or xs k d)) (flat_map f (drop (k + 1) xs))
+first_turn s ps f xs k d h = grind (arith, rest_at, first_append)
 
 pub values_found : {X : Type 0} (s : Isa) (ps : List spec.Place) (f : X → List Values)
     (xs : List X) (k : ℕ) (d : X) (is : List Fields) (whole : Option (List Fields)) → k < length xs
@@ -69,8 +62,7 @@ third_turn : (s : Isa) (ps : List spec.Place) (a b : Option ℕ) (xs : List (Opt
     (d : Option ℕ) → k < length xs → first_solutions s ps (with_third (drop k xs) a b)
     ≡ first_of (solutions s (at_third a b (get_or xs k d)) ps)
     (first_solutions s ps (with_third (drop (k + 1) xs) a b))
-third_turn s ps a b xs k d h =
-    ap (λ l. first_solutions s ps (with_third l a b)) (rest_at xs k d h)
+third_turn s ps a b xs k d h = grind (arith, rest_at)
 
 pub third_found : (s : Isa) (ps : List spec.Place) (a b : Option ℕ) (xs : List (Option ℕ)) (k : ℕ)
     (d : Option ℕ) (is : List Fields) (whole : Option (List Fields)) → k < length xs

@@ -3,13 +3,12 @@
 use Rattle.std.proofs.Common.{◌≡◌, ℕ, zero, suc, ◌<◌, Bool, true, false, cond, List, [], ◌∷◌}
 use Rattle.std.proofs.Common.{length, get_or, ◌⊎◌, inl, inr, Option, Some, None, refl, sym, ap, ◌∙◌}
 use Rattle.std.proofs.Common.{subst, arith}
-use Rattle.std.specs.Prelude.{ℤ, pos, find, filter, All, Contains, Result, Ok, Err, IfOk, IfSome}
+use Rattle.std.specs.Prelude.{ℤ, pos, find, filter, All, Contains, Result, IfOk, IfSome}
 use Rattle.std.specs.Prelude.{IfNone}
 use Rattle.rvs_base.specs.declared.memory_refusal.NoMemory.{NoMemory}
 use Rattle.std.specs.List.{list_any, range_with_len}
 use Rattle.std.proofs.lemmas.Bool.{eqb-true, and_parts, and_from}
 use Rattle.rvs_insn.specs.declared.op.Op.{Op}
-use Rattle.rvs_insn.specs.declared.op.Op.TheVariants.{Lui}
 use Rattle.rvs_insn.specs.declared.op.Format.{Format}
 use Rattle.rvs_insn.specs.declared.op.Format.TheVariants.{R, I, Shift}
 use Rattle.rvs_insn.specs.Isa.{Isa}
@@ -30,8 +29,7 @@ use Rattle.rvs_cross.specs.Sequences.{middle_registers, middle, at_rs1, at_rd, o
 use Rattle.rvs_cross.specs.Sequences.{in_format, insns_of, listed, candidates, solution, onto}
 use Rattle.rvs_cross.specs.Sequences.{solutions, assignments, first_of, first_solutions}
 use Rattle.rvs_cross.specs.Sequences.{first_sequence, IsComputing, Solvable}
-use Rattle.rvs_cross.proofs.Members.{In, in_any, any_in, in_map, map_in, in_flat, flat_in, in_range}
-use Rattle.rvs_cross.proofs.Members.{range_in}
+use Rattle.rvs_cross.proofs.Members.{In, in_any, any_in, map_in, in_flat, flat_in}
 use Rattle.rvs_cross.proofs.Turns.{some_of}
 use Rattle.rvs_cross.proofs.Binding.{next, bound_where_used, in_values, values_in}
 
@@ -51,9 +49,7 @@ contains_in x (y ∷ ys) (suc k) h e = inr (contains_in x ys k (omega arith) e)
 
 in_picked : {X : Type 0} (t : Bool) (x y : X) (rest : List X) → In x (cond t (y ∷ rest) rest)
     → ((t ≡ true) × (y ≡ x)) ⊎ In x rest
-in_picked true x y rest (inl e) = inl (refl, e)
-in_picked true x y rest (inr i) = inr i
-in_picked false x y rest i = inr i
+in_picked h = grind arith
 
 pub filter_in : {X : Type 0} (q : X → Bool) (x : X) (xs : List X) → In x (filter q xs)
     → (q x ≡ true) × In x xs
@@ -66,13 +62,11 @@ filter_in q x (y ∷ ys) i =
 
 kept_in : {X : Type 0} (t : Bool) (x y : X) (rest : List X) → In x rest
     → In x (cond t (y ∷ rest) rest)
-kept_in true x y rest i = inr i
-kept_in false x y rest i = i
+kept_in h = grind arith
 
 first_in : {X : Type 0} (t : Bool) (x y : X) (rest : List X) → t ≡ true → y ≡ x
     → In x (cond t (y ∷ rest) rest)
-first_in true x y rest h e = inl e
-first_in false x y rest h e = cc
+first_in h x = grind arith
 
 pub in_filter : {X : Type 0} (q : X → Bool) (x : X) (xs : List X) → q x ≡ true → In x xs
     → In x (filter q xs)
@@ -82,8 +76,7 @@ in_filter q x (y ∷ ys) h (inr i) = kept_in (q y) x y (filter q ys) (in_filter 
 
 found_first : {X : Type 0} (t : Bool) (x y : X) (o : Option X) → cond t (Some y) o ≡ Some x
     → ((t ≡ true) × (y ≡ x)) ⊎ (o ≡ Some x)
-found_first true x y o e = inl (refl, cc)
-found_first false x y o e = inr e
+found_first h = grind arith
 
 pub find_in : {X : Type 0} (q : X → Bool) (x : X) (xs : List X) → find q xs ≡ Some x
     → (q x ≡ true) × In x xs
@@ -96,8 +89,7 @@ find_in q x (y ∷ ys) e =
 
 not_first : {X : Type 0} (t : Bool) (y : X) (o : Option X) → cond t (Some y) o ≡ None
     → (t ≡ false) × (o ≡ None)
-not_first true y o e = cc
-not_first false y o e = (refl, e)
+not_first h = grind arith
 
 pub not_found : {X : Type 0} (q : X → Bool) (x : X) (xs : List X) → In x xs → q x ≡ true
     → find q xs ≡ None → ⊥
@@ -133,9 +125,7 @@ pub record Middle (op : Op) (i : Fields) : Type 0 where
   pub registers : (f : Field) (r : ℕ) → register_in i f ≡ Some r → In r middle_registers
 
 number_in : (o : Option ℕ) (r : ℕ) → In o middle → o ≡ Some r → In r middle_registers
-number_in o r i e = let m = map_in (λ s. Some s) middle_registers o i in
-    let same : m.item ≡ r = cc (m.is ∙ e) in
-    subst (λ (s : ℕ). In s middle_registers) same m.among
+number_in o r i e = grind (arith, map_in)
 
 no_number : (o : Option ℕ) (r : ℕ) → In o (None ∷ []) → o ≡ Some r → ⊥
 no_number o r (inl e) h = let n : None ≡ Some r = e ∙ h in cc
@@ -149,11 +139,7 @@ two_middle op i o = record { op_is = o.op_is; registers = at } where
   at Rs2 r e = number_in i.rs2 r o.rs2 e
 
 one_middle : (op : Op) (i : Fields) → Over op middle middle (None ∷ []) i → Middle op i
-one_middle op i o = record { op_is = o.op_is; registers = at } where
-  at : (f : Field) (r : ℕ) → register_in i f ≡ Some r → In r middle_registers
-  at Rd r e = number_in i.rd r o.rd e
-  at Rs1 r e = number_in i.rs1 r o.rs1 e
-  at Rs2 r e = absurd (no_number i.rs2 r o.rs2 e)
+one_middle op i o = grind (arith, number_in, no_number)
 
 form_middle : (form : Format) (op : Op) (i : Fields) → In i (in_format form op) → Middle op i
 form_middle R op i m = two_middle op i (over_in op None middle middle middle i m)
@@ -182,8 +168,7 @@ candidate_computes s p i m =
     }
 
 listed_all : (op : Op) → list_any (λ o. is_same o op) all_ops ≡ true
-listed_all Lui = refl
-listed_all _ = refl
+listed_all op = grind arith
 
 in_listed : (ops : Option (List Op)) (op : Op) → is_listed ops op ≡ true → In op (listed ops)
 unfolding listed
@@ -233,18 +218,11 @@ record Parts (o : Option Fields) (r : Option (List Fields)) (is : List Fields) :
 
 onto_some : (o : Option Fields) (r : Option (List Fields)) (is : List Fields) → onto o r ≡ Some is
     → Parts o r is
-onto_some (Some i) (Some js) is e =
-    record { head = i; tail = js; head_is = refl; tail_is = refl; whole_is = cc }
-onto_some (Some i) None is e = cc
-onto_some None (Some js) is e = cc
-onto_some None None is e = cc
+onto_some o r is e = grind arith
 
 pub solved : (s : Isa) (v : Values) (ps : List Place) (is : List Fields)
     → solutions s v ps ≡ Some is → Solves s v ps is
-solved s v [] is e =
-    let P : List Fields → Type 0 = λ js. Solves s v [] js in
-    let empty : [] ≡ is = cc in
-    subst P empty (record { count = refl; computing = tt; fit = refl })
+solved s v [] is e = grind arith
 solved s v (p ∷ ps) is e =
     let parts = onto_some (solution s v p) (solutions s v ps) is e in
     let one = find_in (fits v p) parts.head (candidates s p) parts.head_is in
@@ -258,9 +236,7 @@ solved s v (p ∷ ps) is e =
 
 onto_none : (o : Option Fields) (r : Option (List Fields)) → onto o r ≡ None
     → (o ≡ None) ⊎ (r ≡ None)
-onto_none (Some i) (Some js) e = cc
-onto_none (Some i) None e = inr refl
-onto_none None r e = inl refl
+onto_none o r e = grind arith
 
 pub have_solutions : (s : Isa) (v : Values) (ps : List Place) (is : List Fields)
     → Each (IsComputing s) is → all_fit v ps (some_of is) ≡ true → solutions s v ps ≡ None → ⊥
@@ -282,8 +258,7 @@ pub record FirstAt (s : Isa) (ps : List Place) (vs : List Values) (is : List Fie
 
 of_some : (a b : Option (List Fields)) (is : List Fields) → first_of a b ≡ Some is
     → (a ≡ Some is) ⊎ (b ≡ Some is)
-of_some (Some js) b is e = inl e
-of_some None b is e = inr e
+of_some a b is e = grind arith
 
 pub first_at : (s : Isa) (ps : List Place) (vs : List Values) (is : List Fields)
     → first_solutions s ps vs ≡ Some is → FirstAt s ps vs is
@@ -296,15 +271,12 @@ first_at s ps (v ∷ vs) is e =
     ]
 
 of_none : (a b : Option (List Fields)) → first_of a b ≡ None → (a ≡ None) × (b ≡ None)
-of_none (Some js) b e = cc
-of_none None b e = (refl, e)
+of_none a b e = grind arith
 
 pub none_at : (s : Isa) (ps : List Place) (v : Values) (vs : List Values) → In v vs
     → first_solutions s ps vs ≡ None → solutions s v ps ≡ None
 none_at s ps v [] i e = absurd i
-none_at s ps v (w ∷ vs) (inl h) e =
-    ap (λ x. solutions s x ps) (sym h)
-    ∙ (of_none (solutions s w ps) (first_solutions s ps vs) e).0
+none_at s ps v (w ∷ vs) (inl h) e = grind (arith, of_none)
 none_at s ps v (w ∷ vs) (inr i) e =
     none_at s ps v vs i (of_none (solutions s w ps) (first_solutions s ps vs) e).1
 
@@ -312,12 +284,7 @@ none_at s ps v (w ∷ vs) (inr i) e =
 
 wider : (used : Bool) (o : Option ℕ) → In o (choices_for middle_registers used)
     → In o (choices_for (range_with_len 0 32) used)
-wider false o i = i
-wider true o i = let m = map_in (λ r. Some r) middle_registers o i in
-    let low = range_in m.item 8 8 m.among in
-    subst (λ (x : Option ℕ). In x (choices_for (range_with_len 0 32) true)) m.is
-    (in_map (λ r. Some r) m.item (range_with_len 0 32)
-    (in_range m.item 0 32 (omega arith) (omega arith)))
+wider used o i = grind arith
 
 pub record Whole (s : Isa) (ps : List Place) (is : List Fields) : Type 0 where
   pub count : length is ≡ length ps
@@ -352,8 +319,7 @@ field_middle s i (Some f) r c e = (insn_middle i.op i (computing_in s i c)).regi
 
 either_found : (b : Bool) (here after : Option ℕ) (r : ℕ) → next b here after ≡ Some r
     → (here ≡ Some r) ⊎ (after ≡ Some r)
-either_found true here after r e = inl e
-either_found false here after r e = inr e
+either_found b here after r e = grind arith
 
 pub assigned_middle : (s : Isa) (x : Variable) (ps : List Place) (is : List Fields) (r : ℕ)
     → Each (IsComputing s) is → assigned x ps is ≡ Some r → In r middle_registers
@@ -368,10 +334,7 @@ assigned_middle s x (p ∷ ps) (i ∷ is) r c e =
 narrower : (used : Bool) (o : Option ℕ) → In o (choices_for (range_with_len 0 32) used)
     → (used ≡ true → (r : ℕ) × (o ≡ Some r) × In r middle_registers)
     → In o (choices_for middle_registers used)
-narrower false o i h = i
-narrower true o i h = let t = h refl in
-    subst (λ (x : Option ℕ). In x (choices_for middle_registers true)) (sym t.1)
-    (in_map (λ r. Some r) t.0 middle_registers t.2)
+narrower used o i h = grind arith
 
 one_narrower : (s : Isa) (v : Values) (x : Variable) (ps : List Place) (is : List Fields)
     → Each (IsComputing s) is → all_fit v ps (some_of is) ≡ true
@@ -404,18 +367,15 @@ SolveResult = Result (Option (List Fields)) NoMemory
 
 ok_then : (P Q : Option (List Fields) → Type 0) → ((o : Option (List Fields)) → P o → Q o)
     → (r : SolveResult) → IfOk r P → IfOk r Q
-ok_then P Q h (Ok o) p = h o p
-ok_then P Q h (Err e) p = tt
+ok_then P Q h r p = grind arith
 
 some_then : (Q : List Fields → Type 0) (whole o : Option (List Fields))
     → ((is : List Fields) → whole ≡ Some is → Q is) → o ≡ whole → IfSome o Q
-some_then Q whole None h e = tt
-some_then Q whole (Some is) h e = h is (sym e)
+some_then Q whole o h e = grind arith
 
 none_then : (N : Type 0) (whole o : Option (List Fields)) → (whole ≡ None → N) → o ≡ whole
     → IfNone o N
-none_then N whole None h e = h (sym e)
-none_then N whole (Some is) h e = tt
+none_then N whole o h e = grind arith
 
 pub answer_some : (s : Isa) (ps : List Place) (Q : List Fields → Type 0)
     → ((is : List Fields) → Whole s ps is → Q is) → (r : SolveResult)

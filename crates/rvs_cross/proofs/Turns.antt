@@ -2,7 +2,7 @@
 use Rattle.std.proofs.Common.{◌≡◌, ℕ, ◌+◌, ◌<◌, ◌≤◌, Bool, true, false, ◌&&◌, ◌||◌, cond, List, []}
 use Rattle.std.proofs.Common.{◌∷◌, map, length, get_or, drop, Option, Some, None, refl, sym, ap}
 use Rattle.std.proofs.Common.{◌∙◌, arith, add-one, drop-cons}
-use Rattle.std.specs.Prelude.{find, option_map}
+use Rattle.std.specs.Prelude.{option_map}
 use Rattle.std.specs.List.{list_any}
 use Rattle.std.proofs.lemmas.List.{drop_all}
 use Rattle.rvs_insn.specs.Fields.{Fields}
@@ -18,9 +18,7 @@ use Rattle.rvs_cross.specs.Assigned.{assigned_field, register_by, assigned_in, a
 -- the list from a place on is its element there and the list after it
 pub rest_is : {X : Type 0} (xs : List X) (k : ℕ) (x : X) → k < length xs → x ≡ get_or xs k x
     → drop k xs ≡ x ∷ drop (k + 1) xs
-rest_is xs k x h e =
-    let rest : drop k xs ≡ get_or xs k x ∷ drop (k + 1) xs = rw (add-one, drop-cons xs k x) in
-    rest ∙ ap (λ y. y ∷ drop (k + 1) xs) (sym e)
+rest_is xs k x h e = grind (arith, add-one, drop-cons)
 
 abbrev pub some_of : List Fields → List (Option Fields)
 some_of is = map (λ i. Some i) is
@@ -31,11 +29,7 @@ fit_rest : (w : Place → spec.Place) (v : Values) (ps : List Place) (is : List 
     → all_fit v (map w (drop k ps)) (some_of (drop k is))
     ≡ (fits v (w p) i && all_fit v (map w (drop (k + 1) ps))
     (some_of (drop (k + 1) is)))
-fit_rest w v ps is k p i h l e f =
-    let here : k < length is = omega arith in
-    ap (λ q. all_fit v (map w q) (some_of (drop k is))) (rest_is ps k p h e)
-    ∙ ap (λ j. all_fit v (map w (p ∷ drop (k + 1) ps)) (some_of j))
-    (rest_is is k i here f)
+fit_rest w v ps is k p i h l e f = grind (arith, rest_is)
 
 pub fit_turn : (w : Place → spec.Place) (v : Values) (ps : List Place) (is : List Fields)
     (k : ℕ) (p : Place) (i : Fields) (whole good : Bool) → k < length ps
@@ -61,9 +55,7 @@ fit_fails w v ps is k p i whole good h l e f u g t =
 pub fit_end : (w : Place → spec.Place) (v : Values) (ps : List Place) (is : List Fields)
     (k : ℕ) (whole : Bool) → length ps ≤ k → length is ≡ length ps
     → whole ≡ all_fit v (map w (drop k ps)) (some_of (drop k is)) → true ≡ whole
-fit_end w v ps is k whole h l u =
-    sym (u ∙ ap (λ q. all_fit v (map w q) (some_of (drop k is))) (drop_all k ps h)
-    ∙ ap (λ j. all_fit v [] (some_of j)) (drop_all k is (omega arith)))
+fit_end w v ps is k whole h l u = grind (arith, drop_all)
 
 abbrev pub next_assigned : Bool → Option ℕ → Option ℕ → Option ℕ
 next_assigned b here after = elim b [ true ↦ here | false ↦ after ]
@@ -73,10 +65,7 @@ assigned_rest : (x : Variable) (ps : List Place) (is : List Fields) (k : ℕ) (p
     → assigned x (map place_view (drop k ps)) (drop k is)
     ≡ next_assigned (says_of x (place_view p)) (assigned_in x p.sets i)
     (assigned x (map place_view (drop (k + 1) ps)) (drop (k + 1) is))
-assigned_rest x ps is k p i h l e f =
-    let here : k < length is = omega arith in
-    ap (λ q. assigned x (map place_view q) (drop k is)) (rest_is ps k p h e)
-    ∙ ap (λ j. assigned x (map place_view (p ∷ drop (k + 1) ps)) j) (rest_is is k i here f)
+assigned_rest x ps is k p i h l e f = grind (arith, rest_is)
 
 abbrev is_there : Option Field → Bool
 is_there None = false
@@ -85,17 +74,14 @@ is_there (Some f) = true
 says_more : (b any : Bool) (s : Assignment) (o : Option Assignment)
     → any ≡ is_there (option_map (λ (t : Assignment). t.field) o)
     → (b || any) ≡ is_there (option_map (λ (t : Assignment). t.field) (cond b (Some s) o))
-says_more true any s o h = refl
-says_more false any s o h = h
+says_more b any s o h = grind arith
 
 -- a place says something of a variable where it has a field for it
 says_is : (x : Variable) (sets : List Assignment)
     → list_any (λ (s : Assignment). same_variable x s.variable) sets
     ≡ is_there (assigned_field x sets)
 says_is x [] = refl
-says_is x (s ∷ sets) =
-    says_more (same_variable x s.variable) _ s
-    (find (λ (t : Assignment). same_variable x t.variable) sets) (says_is x sets)
+says_is x (s ∷ sets) = grind (arith, says_more, (says_is x sets))
 
 pub assigned_turn : (x : Variable) (ps : List Place) (is : List Fields) (k : ℕ) (p : Place)
     (i : Fields) (whole : Option ℕ) → k < length ps → length is ≡ length ps
@@ -123,5 +109,4 @@ assigned_here x ps is k p i whole field h l e f w s =
 
 pub assigned_end : (x : Variable) (ps : List Place) (is : List Fields) (k : ℕ) (whole : Option ℕ)
     → length ps ≤ k → whole ≡ assigned x (map place_view (drop k ps)) (drop k is) → None ≡ whole
-assigned_end x ps is k whole h w =
-    sym (w ∙ ap (λ q. assigned x (map place_view q) (drop k is)) (drop_all k ps h))
+assigned_end x ps is k whole h w = grind (arith, drop_all)

@@ -1,13 +1,13 @@
 -- The words of the languages of expressions.
 use Rattle.std.proofs.Common.{◌≡◌, ℕ, Bool, true, false, List, [], Option, Some, None, is_some}
-use Rattle.std.proofs.Common.{refl, sym, ap, ◌∙◌}
-use Rattle.std.specs.Prelude.{◌||◌, if◌then◌else◌, option_map, bytes_eq, codes}
+use Rattle.std.proofs.Common.{sym, ap, ◌∙◌, arith}
+use Rattle.std.specs.Prelude.{◌||◌, if◌then◌else◌, option_map}
 use Rattle.std.specs.Option.{option_or}
 use Rattle.rvs_expr_text.specs.declared.lexeme.RegName.TheVariants.{Rd, Rs1, Rs2}
 use Rattle.rvs_expr_text.specs.declared.lexeme.Word.{Word}
 use Rattle.rvs_expr_text.specs.declared.lexeme.Word.TheVariants.{Register, Fixed}
 use Rattle.rvs_expr_text.specs.declared.words.Language.TheVariants.{Registers}
-use Rattle.rvs_expr_text.specs.Words.{own_or_foreign, register_number, field_word, number_word}
+use Rattle.rvs_expr_text.specs.Words.{own_or_foreign, field_word, number_word}
 use Rattle.rvs_expr_text.specs.Words.{word_of}
 use Rattle.rvs_cross.specs.Entries.{is_known}
 
@@ -19,17 +19,11 @@ field_by a b c n = if a then Some (Register Rd) else (if b then Some (Register R
 known_by : (a b c : Bool) (n : Option ℕ) (o : Option Word)
     → is_known (own_or_foreign (option_or (field_by a b c n) None) o)
     ≡ (is_some (field_by a b c n) || is_some o)
-known_by true b c n o = refl
-known_by false true c n o = refl
-known_by false false true n o = refl
-known_by false false false (Some n) o = refl
-known_by false false false None (Some w) = refl
-known_by false false false None None = refl
+known_by a b c n o = grind arith
 
 known : (name : List ℕ) → is_known (word_of Registers [] name)
     ≡ (is_some (field_word name) || is_some (number_word name))
-known name = known_by (bytes_eq name (codes "rd")) (bytes_eq name (codes "rs1"))
-    (bytes_eq name (codes "rs2")) (register_number name) (number_word name)
+known name = simp known_by
 
 pub known_field : (name : List ℕ) → is_some (field_word name) ≡ true
     → true ≡ is_known (word_of Registers [] name)

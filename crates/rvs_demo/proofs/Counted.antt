@@ -3,7 +3,7 @@ use Rattle.std.proofs.Common.{◌≡◌, length, refl}
 use Rattle.rvs_insn.specs.Names as names
 use Rattle.rvs_expr.specs.Parse as expressions
 use Rattle.rvs_cross.specs.Parse as crosses
-use Rattle.rvs_cgf.specs.Keys as keys
+use Rattle.rvs_points.specs.Keys as keys
 use Rattle.rvs_demo.specs.Label.{points, points_of, mnemonics, registers, equations, comparisons}
 use Rattle.rvs_demo.specs.Label.{hazards}
 

@@ -16,9 +16,6 @@ form_by a b c d e f g = grind arith
 pub drawn_form : (k : ℕ) → (row (drawn_op k)).form ≡ R
 drawn_form k = form_by (k == 0) (k == 1) (k == 2) (k == 3) (k == 4) (k == 5) (k == 6)
 
-pub drawn_encodable : (t : ℕ) → IsEncodable (drawn t)
-drawn_encodable t = grind (arith, drawn_form)
-
 -- the word of what is drawn, which has no immediate
 pub drawn_word : (t : ℕ)
     → (row (drawn_op (t % 8))).bits + 0x80 * (8 + t / 8 % 8) + 0x8000 * (8 + t / 64 % 8)

@@ -4,8 +4,8 @@ use Rattle.std.proofs.Common.{map, take, get_or, Bor, append_assoc}
 use Rattle.std.specs.List.{cons_option}
 use Rattle.std.proofs.lemmas.List.{map-append, take_more}
 use Rattle.std.proofs.lemmas.List.Elements.{filter_map-append}
-use Rattle.rvs_cgf.specs.declared.group.Kind.{Kind}
-use Rattle.rvs_cgf.specs.Groups.{Point, says}
+use Rattle.rvs_points.specs.declared.group.Kind.{Kind}
+use Rattle.rvs_points.specs.Points.{Point, says}
 use Rattle.rvs_demo.specs.Label.{told, points_of}
 
 -- the point that a key says, where it says one

@@ -2,20 +2,20 @@
 use Rattle.std.proofs.Common.{◌≡◌, ℕ, zero, suc, ◌+◌, List, [], ◌∷◌, refl, ap, subst, ◌∙◌, length}
 use Rattle.std.proofs.Common.{map, replicate, arith}
 use Rattle.rvs_insn.specs.Fields.{Fields}
-use Rattle.rvs_cgf.specs.GroupView.{label_view}
-use Rattle.rvs_cgf.specs.Groups as group
-use Rattle.rvs_cgf.specs.declared.group.Label.{Label}
+use Rattle.rvs_points.specs.PointView.{label_view}
+use Rattle.rvs_points.specs.Points as group
+use Rattle.rvs_points.specs.declared.group.Label.{Label}
 use Rattle.rvs_machine.specs.Machine.{Whole, started}
 use Rattle.rvs_machine.specs.Run.{run_of}
 use Rattle.rvs_log.specs.Entries.{Entry, entries_of}
 use Rattle.rvs_log.specs.Logs.{log_of}
 use Rattle.rvs_log.proofs.Octets.{AreBytes, bytes_below, joined, word_bytes}
 use Rattle.rvs_log.proofs.RunLogs.{run_entries}
-use Rattle.rvs_count.specs.Counting.{aims_of, count, kept}
+use Rattle.rvs_index.specs.Counting.{aims_of, count, kept}
 use Rattle.rvs_count.specs.Report.{report_of}
 use Rattle.rvs_log.specs.Taken.{IsTold, ended, state_for}
 use Rattle.rvs_log.specs.Grammar.{Reading}
-use Rattle.rvs_count.specs.State.{CountState, Tallied, state_of, tally_of, with_reading}
+use Rattle.rvs_index.specs.State.{CountState, Tallied, state_of, tally_of, with_reading}
 use Rattle.rvs_log.specs.Feeds.{Fed}
 use Rattle.rvs_base.specs.declared.asked.Window.{Window}
 use Rattle.rvs_count.proofs.Streams.{tally_told}

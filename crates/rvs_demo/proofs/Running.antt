@@ -6,7 +6,7 @@ use Rattle.rvs_machine.specs.declared.event.Event.{Event}
 use Rattle.rvs_machine.specs.Machine.{Setup, State, Whole, step_of}
 use Rattle.rvs_machine.specs.Run.{Outcome, follow, run_of}
 use Rattle.rvs_log.specs.Logs.{log_of}
-use Rattle.rvs_count.specs.State.{CountState, with_reading}
+use Rattle.rvs_index.specs.State.{CountState, with_reading}
 use Rattle.rvs_log.specs.Feeds.{Fed}
 use Rattle.rvs_log.proofs.Feeding.{Fed-more}
 use Rattle.rvs_demo.specs.Counted.{executed_in, goes_on}

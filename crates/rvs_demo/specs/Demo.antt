@@ -5,7 +5,7 @@ use Rattle.rvs_machine.specs.Machine.{started}
 use Rattle.rvs_machine.specs.Run.{Outcome, run_of}
 use Rattle.rvs_log.specs.Entries.{Entry}
 use Rattle.rvs_log.specs.Logs.{as_entry}
-use Rattle.rvs_count.specs.Counting.{aims_of, count}
+use Rattle.rvs_index.specs.Counting.{aims_of, count}
 use Rattle.rvs_count.specs.Report.{report_of}
 use Rattle.rvs_demo.specs.Program.{core, image}
 use Rattle.rvs_demo.specs.Label.{label}

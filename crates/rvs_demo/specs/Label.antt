@@ -3,10 +3,11 @@ use Rattle.std.specs.Prelude.{ℕ, true, List, [], ◌∷◌, ◌++◌, Option, 
 use Rattle.std.specs.List.{filter_map}
 use Rattle.rvs_insn.specs.declared.op.Op.{Op}
 use Rattle.rvs_insn.specs.declared.op.Op.TheVariants.{Add, Sub, Xor, Or, And, Slt, Sltu, Mul}
-use Rattle.rvs_cgf.specs.declared.group.Kind.{Kind}
-use Rattle.rvs_cgf.specs.declared.group.Kind.TheVariants.{Mnemonic, Rs1, Rs2, Rd, OpComb, ValComb}
-use Rattle.rvs_cgf.specs.declared.group.Kind.TheVariants.{CrossComb}
-use Rattle.rvs_cgf.specs.Groups.{Point, Label, point, Said, means, says}
+use Rattle.rvs_points.specs.declared.group.Kind.{Kind}
+use Rattle.rvs_points.specs.declared.group.Kind.TheVariants.{Mnemonic, Rs1, Rs2, Rd, OpComb}
+use Rattle.rvs_points.specs.declared.group.Kind.TheVariants.{ValComb}
+use Rattle.rvs_points.specs.declared.group.Kind.TheVariants.{CrossComb}
+use Rattle.rvs_points.specs.Points.{Point, Label, point, Said, means, says}
 
 -- the point of a key that means something
 abbrev pub told : Kind → List ℕ → Said → Option Point

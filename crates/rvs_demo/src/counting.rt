@@ -4,7 +4,7 @@ ghost use Rattle.rvs_machine.specs.Machine.{step_of};
 ghost use Rattle.rvs_machine.specs.Run.{run_of};
 ghost use Rattle.rvs_log.specs.Logs.{log_of};
 ghost use Rattle.rvs_log.specs.Feeds.{Fed};
-ghost use Rattle.rvs_count.specs.State.{with_reading};
+ghost use Rattle.rvs_index.specs.State.{with_reading};
 ghost use Rattle.rvs_demo.specs.Counted.{executed_in, goes_on};
 ghost use Rattle.rvs_log.specs.Lines.{log_limit};
 

@@ -1,6 +1,6 @@
 // The demonstration.
 ghost use Rattle.std.specs.Prelude.{◌≡◌, ◌≤◌, [], ◌∷◌, IfOk, map};
-ghost use Rattle.rvs_cgf.specs.GroupView.{label_view};
+ghost use Rattle.rvs_points.specs.PointView.{label_view};
 ghost use Rattle.rvs_demo.specs.Demo as spec;
 ghost use Rattle.rvs_demo.specs.Label.{label};
 
@@ -8,9 +8,9 @@ use crate::counting::count_run;
 use crate::label::label;
 use crate::program::{CORE, image};
 use rvs_base::{DemoSize, Items, NoMemory, Text};
-use rvs_cgf::Groups;
 use rvs_count::new_counter;
 use rvs_machine::Machine;
+use rvs_points::Groups;
 use std::alloc::Global;
 
 /// The group of the demonstration alone.

@@ -1,12 +1,12 @@
 // The coverage group of the demonstration.
 ghost use Rattle.std.specs.Prelude.{◌≡◌, ◌++◌, IfOk, OnOk, map, option_map};
-ghost use Rattle.rvs_cgf.specs.GroupView.{label_view, point_view};
-ghost use Rattle.rvs_cgf.specs.Groups.{says};
+ghost use Rattle.rvs_points.specs.PointView.{label_view, point_view};
+ghost use Rattle.rvs_points.specs.Points.{says};
 ghost use Rattle.rvs_demo.specs.Label as spec;
 
 use rvs_base::{Items, NoMemory, Text};
-use rvs_cgf::{Kind, Label, Point, Said, read_key};
 use rvs_insn::Op;
+use rvs_points::{Kind, Label, Point, Said, read_key};
 use std::alloc::Global;
 
 /// The point of a key, where it says one.

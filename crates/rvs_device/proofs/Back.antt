@@ -1,5 +1,5 @@
 -- What reading a signature file back comes to.
-use Rattle.std.proofs.Common.{◌≡◌, ◌<◌, ◌+◌, inl, inr, ℕ, ℤ, true, not, nat_lt, List, length}
+use Rattle.std.proofs.Common.{◌≡◌, ◌<◌, ◌+◌, inl, inr, ℕ, ℤ, not, nat_lt, List, length}
 use Rattle.std.proofs.Common.{Option, None, zero, suc, [], ◌∷◌, arith}
 use Rattle.std.proofs.Common.{Some, Ok, refl, sym, ap, ◌∙◌}
 use Rattle.std.proofs.lemmas.Bool.{lt-ltb}
@@ -57,9 +57,7 @@ back-absent signature status reference old new r most lacks = record {
 
 long-verdict : (status : ℤ) (reference bytes : List ℕ) → signature_limit < length bytes
     → verdict_on status reference (Some bytes) ≡ TooLong status
-long-verdict status reference bytes longer =
-    let long : nat_lt signature_limit (length bytes) ≡ true =
-    lt-ltb signature_limit (length bytes) longer in rw long refl
+long-verdict status reference bytes longer = simp (nat_lt, lt-ltb)
 
 longer : (n : ℕ) → (xs : List ℕ) × (n < length xs)
 longer zero = (0 ∷ [], omega arith)

@@ -1,10 +1,11 @@
 -- What the steps of judging leave, put together.
 use Rattle.std.proofs.Common.{◌≡◌, ◌≢◌, ◌↔◌, ◌⊎◌, inl, inr, ℕ, ℤ, Bool, true, false, ◌&&◌}
 use Rattle.std.proofs.Common.{is_some, if◌then◌else◌, List, [], ◌∷◌, ◌++◌, length, Option, Some}
-use Rattle.std.proofs.Common.{None, Result, Ok, Err, IfOk, bytes_eq, refl, sym, ap, subst, ◌∙◌}
-use Rattle.std.proofs.Common.{arith, ◌+◌}
+use Rattle.std.proofs.Common.{None, Result, Ok, Err, IfOk, bytes_eq, refl, sym, ap, ◌∙◌}
+use Rattle.std.proofs.Common.{arith, ◌+◌, rules}
 use Rattle.std.proofs.lemmas.Slice.Eq.{bytes_eq-Decides}
 use Rattle.std.proofs.lemmas.List.{append_cancel_left}
+use Rattle.rvs_plan.proofs.Sequence.{is_told-Tells}
 use Rattle.rvs_base.specs.Faults.{raised}
 use Rattle.rvs_base.specs.Host.{Files, HostState, Tells, is_told, ReadsOnly, WritesOnly, MaySpoil}
 use Rattle.rvs_base.specs.Host.{Spoils, written, with_file, with_left, run_over, RunsOnly}
@@ -24,8 +25,7 @@ use Rattle.rvs_device.proofs.Passing.{passes}
 -- ---- files
 choice : (b : Bool) (now now' : Option (List ℕ)) (before : Option (List ℕ))
     → (b ≡ true → now ≡ now') → (b ≡ false → now ≡ before) → now ≡ (if b then now' else before)
-choice true now now' before here there = here refl
-choice false now now' before here there = there refl
+choice b now now' before here there = grind arith
 
 distinct : (other name : List ℕ) → bytes_eq other name ≡ false → other ≢ name
 distinct other name apart is = let here : bytes_eq other name ≡ true =
@@ -35,21 +35,16 @@ distinct other name apart is = let here : bytes_eq other name ≡ true =
 with_left-of : (name : List ℕ) (files files' : Files)
     → ((other : List ℕ) → other ≢ name → files' other ≡ files other)
     → files' ≡ with_left name (files' name) files
-with_left-of name files files' others =
-    λ i other. choice (bytes_eq other name) (files' other) (files' name) (files other)
-    (λ here. ap files' ((bytes_eq-Decides other name).0 here))
-    (λ apart. others other (distinct other name apart)) i
+with_left-of name files files' others = grind (arith, choice, bytes_eq, bytes_eq-Decides, distinct)
 
 chosen_again : (b : Bool) (left mid before : Option (List ℕ))
     → (if b then left else if b then mid else before) ≡ (if b then left else before)
-chosen_again true left mid before = refl
-chosen_again false left mid before = refl
+chosen_again b left mid before = grind arith
 
 -- what is left in a file covers what was written there
 pub left_over : (name bytes : List ℕ) (left : Option (List ℕ)) (files : Files)
     → with_left name left (with_file name bytes files) ≡ with_left name left files
-left_over name bytes left files =
-    λ i other. chosen_again (bytes_eq other name) left (Some bytes) (files other) i
+left_over name bytes left files = grind (arith, chosen_again, bytes_eq)
 
 pub same_name : (name : List ℕ) → bytes_eq name name ≡ true
 same_name name = (bytes_eq-Decides name name).1 refl
@@ -61,55 +56,27 @@ at_name name left files = rw (same_name name) refl
 -- ---- what is told
 parts_told : (f : Option Files) (r : Option (List ℕ)) (u : Option (List DeviceRun))
     → (is_some f && is_some r && is_some u) ≡ true → (is_some r ≡ true) × (is_some u ≡ true)
-parts_told (Some f) (Some r) (Some u) e = (refl, refl)
-parts_told (Some f) (Some r) None e = absurd cc
-parts_told (Some f) None u e = absurd cc
-parts_told None r u e = absurd cc
-
-is_told-Tells : {h : HostState} {files : Files} → Tells h files → is_told h ≡ true
-is_told-Tells {h} t = let f = t.files in let r = t.rest in let u = t.runs in rw (f, r, u) refl
+parts_told f r u e = grind arith
 
 Tells-told : (h : HostState) (files : Files) → h.files ≡ Some files → is_told h ≡ true
     → Tells h files
-Tells-told h files is told = let parts = parts_told h.files h.rest h.runs told in
-    record { files = is; rest = parts.0; runs = parts.1 }
+Tells-told h files is told = grind (arith, parts_told)
 
 -- ---- counts
 Later-start : (h : HostState) → Later h h
-Later-start h =
-    record { reads = omega arith; writes = omega arith; devices = omega arith; told = refl }
+Later-start h = grind arith
 
 Later-trans : {a b c : HostState} → Later a b → Later b c → Later a c
-Later-trans p q = record {
-  reads = omega (arith, p.reads, q.reads);
-  writes = omega (arith, p.writes, q.writes);
-  devices = omega (arith, p.devices, q.devices);
-  told = q.told ∙ p.told;
-}
+Later-trans p q = grind arith
 
 Later-writes : {a b : HostState} → WritesOnly a b → Later a b
-Later-writes w = record {
-  reads = let same = w.reading in omega arith;
-  writes = w.later;
-  devices = let same = w.running in omega arith;
-  told = w.told;
-}
+Later-writes w = grind arith
 
 Later-runs : {a b : HostState} → RunsOnly a b → Later a b
-Later-runs r = record {
-  reads = let same = r.reading in omega arith;
-  writes = let same = r.writing in omega arith;
-  devices = r.later;
-  told = r.told;
-}
+Later-runs r = grind arith
 
 Later-reads : {a b : HostState} → ReadsOnly a b → Later a b
-Later-reads {a} {b} r = record {
-  reads = r.later;
-  writes = let same = r.writing in omega arith;
-  devices = let same = r.running in omega arith;
-  told = λ i. is_some (r.files i) && r.told i && is_some (r.runs i);
-}
+Later-reads {a} {b} r = grind (arith, is_some)
 
 -- ---- nothing was done
 pub same_files : (name : List ℕ) (files : Files) → files ≡ with_left name (files name) files
@@ -135,17 +102,12 @@ front_of_none (b ∷ front) rest e = absurd cc
 spoilt : (old now : Option (List ℕ)) → (now ≡ old) ⊎ (now ≡ None) ⊎
     ((front : List ℕ) × (rest : List ℕ) × ([] ≡ front ++ rest) × (now ≡ Some front)) → (now ≡ old) ⊎
     (now ≡ None) ⊎ (now ≡ Some [])
-spoilt old now (inl same) = inl same
-spoilt old now (inr (inl none)) = inr (inl none)
-spoilt old now (inr (inr front)) =
-    inr (inr (front.3 ∙ ap (λ (f : List ℕ). Some f) (front_of_none front.0 front.1 front.2)))
+spoilt old now h = search (rules, inl, inr, front_of_none)
 
 spoilt_files : (name : List ℕ) (before now : Option Files) (files : Files) → before ≡ Some files
     → MaySpoil name [] before now
     → (files' : Files) × (now ≡ Some files') × Spoils name [] files files'
-spoilt_files name None now files is s = absurd cc
-spoilt_files name (Some f) now files is s = let same : f ≡ files = cc in
-    subst (λ (g : Files). (files' : Files) × (now ≡ Some files') × Spoils name [] g files') same s
+spoilt_files name before now files is s = grind arith
 
 pub judges-unwritten : (t : Task) (old new : HostState) → WritesOnly old new
     → MaySpoil t.signature [] old.files new.files → new.write_faults ≡ raised old.write_faults
@@ -180,10 +142,7 @@ judges-unwritten t old new w s once = record {
 changed_files : (name : List ℕ) (before now : Option Files) (files : Files) → before ≡ Some files
     → ChangesOne name before now → (files' : Files) × (now ≡ Some files')
     × ((other : List ℕ) → other ≢ name → files' other ≡ files other)
-changed_files name None now files is s = absurd cc
-changed_files name (Some f) now files is s = let same : f ≡ files = cc in subst
-    (λ (g : Files). (files' : Files) × (now ≡ Some files')
-    × ((other : List ℕ) → other ≢ name → files' other ≡ g other)) same s
+changed_files name before now files is s = grind arith
 
 -- the files after the empty one was written
 emptied : (t : Task) (old mid : HostState) (files : Files)
@@ -264,13 +223,7 @@ made-run t old mid new status files runs m tells is =
 RanOnce-reads : {t : Task} {files : Files} {runs : List DeviceRun} {mid new : HostState}
     {run : DeviceRun} → ReadsOnly mid new → RanOnce t files runs mid run → RanOnce t files runs new
     run
-RanOnce-reads r ran = record {
-  added = r.runs ∙ ran.added;
-  words = ran.words;
-  test = ran.test;
-  before = ran.before;
-  left = r.files ∙ ran.left;
-}
+RanOnce-reads r ran = grind arith
 
 -- the verdict is that of what the run left
 found-left : (t : Task) (files : Files) (runs : List DeviceRun) (h : HostState) (run : DeviceRun)
@@ -350,19 +303,12 @@ last_run a b e = cc
 
 same_run : (runs : List DeviceRun) (a b : DeviceRun) (now : Option (List DeviceRun))
     → now ≡ Some (runs ++ a ∷ []) → now ≡ Some (runs ++ b ∷ []) → a ≡ b
-same_run runs a b now p q =
-    let both : Some (runs ++ a ∷ []) ≡ Some (runs ++ b ∷ []) = sym p ∙ q in
-    let lists : runs ++ a ∷ [] ≡ runs ++ b ∷ [] = cc in
-    last_run a b (append_cancel_left runs (a ∷ []) (b ∷ []) lists)
+same_run runs a b now p q = grind (arith, last_run, append_cancel_left)
 
 passes-by : (t : Task) (verdict : TestVerdict) (a b : DeviceRun) → a ≡ b
     → verdict ≡ verdict_on a.status t.reference a.after
     → (verdict ≡ Pass (length t.reference) b.status) ↔ Spells t b.after
-passes-by t verdict a b same is =
-    subst (λ (r : DeviceRun). (verdict ≡ Pass (length t.reference) r.status) ↔ Spells t r.after)
-    same
-    (subst (λ (v : TestVerdict). (v ≡ Pass (length t.reference) a.status) ↔ Spells t a.after)
-    (sym is) (passes t a.status a.after))
+passes-by t verdict a b same is = grind (arith, passes)
 
 judges-passes : (t : Task) (old new : HostState) (verdict : TestVerdict)
     → Judges t old new (Ok verdict) → PassesBySpelling t old new verdict

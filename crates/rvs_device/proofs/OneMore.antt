@@ -1,6 +1,6 @@
 -- Pieces put behind each other, one after the other.
 use Rattle.std.proofs.Common.{◌≡◌, ℕ, ◌+◌, ◌<◌, List, ◌∷◌, ◌++◌, length, map, drop, get_or}
-use Rattle.std.proofs.Common.{sym, ap, ◌∙◌, append_assoc, add-one}
+use Rattle.std.proofs.Common.{append_assoc, add-one, arith}
 use Rattle.std.proofs.Math.Seq.{drop-cons}
 use Rattle.std.specs.List.{flat_map}
 
@@ -12,7 +12,4 @@ pub one_more : {A : Type 0} (f : List ℕ → List ℕ) (g : A → List ℕ) (ps
     (old new whole : List ℕ) → i < length ps → new ≡ old ++ f (g (get_or ps i d))
     → old ++ flat_map f (map g (drop i ps)) ≡ whole
     → new ++ flat_map f (map g (drop (i + 1) ps)) ≡ whole
-one_more f g ps i d old new whole h e so_far =
-    ap (λ n. n ++ flat_map f (map g (drop (i + 1) ps))) e
-    ∙ append_assoc old (f (g (get_or ps i d))) (flat_map f (map g (drop (i + 1) ps)))
-    ∙ ap (λ ds. old ++ flat_map f (map g ds)) (sym (drop-at ps i d h)) ∙ so_far
+one_more f g ps i d old new whole h e so_far = grind (arith, append_assoc, drop-at)

@@ -1,9 +1,8 @@
 -- Judging meets its plan.
 use Rattle.std.proofs.Common.{◌≡◌, ◌≢◌, ◌⊎◌, inl, inr, ℕ, Bool, true, false, is_some, if◌then◌else◌}
-use Rattle.std.proofs.Common.{List, [], ◌∷◌, ◌++◌, Option, Some, None, Result, Ok, Err, IfErr}
-use Rattle.std.proofs.Common.{bytes_eq, refl, sym, ap, subst, ◌∙◌, ◌+◌, pos}
-use Rattle.std.proofs.lemmas.Slice.Eq.{bytes_eq-Decides}
-use Rattle.rvs_base.specs.Host.{Files, HostState, Tells, is_told, MaySpoil, Spoils, written}
+use Rattle.std.proofs.Common.{List, [], ◌∷◌, Option, Some, None, Result, Ok, Err, IfErr}
+use Rattle.std.proofs.Common.{bytes_eq, refl, sym, ap, ◌∙◌, ◌+◌, pos, arith, rules}
+use Rattle.rvs_base.specs.Host.{Files, HostState, Tells, is_told, MaySpoil, written}
 use Rattle.rvs_base.specs.Host.{with_file}
 use Rattle.rvs_base.specs.Host.{with_left, run_over, ChangesOne}
 use Rattle.rvs_base.specs.declared.host.DeviceRun.{DeviceRun}
@@ -42,42 +41,23 @@ running t run = Device t.words t.test t.signature (answer_of run)
 run_is : (t : Task) (files : Files) (runs : List DeviceRun) (new : HostState) (run : DeviceRun)
     → RanOnce t files runs new run → run
     ≡ run_over t.words t.test t.signature (with_file t.signature [] files) run.after run.status
-run_is t files runs new run ran =
-    let empty : with_file t.signature [] files t.signature ≡ Some [] =
-    rw (same_name t.signature) refl in
-    let before : run.before ≡ with_file t.signature [] files t.signature = ran.before ∙ sym empty in
-    λ i. record {
-      words = ran.words i;
-      test = ran.test i;
-      before = before i;
-      after = run.after;
-      status = run.status;
-    }
+run_is t files runs new run ran = grind (arith, same_name)
 
 files_did : (t : Task) (files : Files) (runs : List DeviceRun) (old new : HostState)
     (run : DeviceRun) → old.files ≡ Some files → RanOnce t files runs new run → new.files ≡ left_by
     t.signature (answer_of run) (written t.signature [] old.files)
-files_did t files runs old new run is ran =
-    ran.left ∙ ap (λ (f : Files). Some f) (sym (left_over t.signature [] run.after files))
-    ∙ ap (λ (f : Option Files). left_by t.signature (answer_of run) (written t.signature [] f))
-    (sym is)
+files_did t files runs old new run is ran = grind (arith, left_over)
 
 runs_did : (t : Task) (files : Files) (runs : List DeviceRun) (old new : HostState)
     (run : DeviceRun) → old.files ≡ Some files → old.runs ≡ Some runs → RanOnce t files runs new run
     → new.runs ≡ run_added t.words t.test t.signature (answer_of run)
     (written t.signature [] old.files) old.runs
-runs_did t files runs old new run is before ran =
-    ran.added ∙ ap (λ (r : DeviceRun). Some (runs ++ r ∷ [])) (run_is t files runs new run ran)
-    ∙ (λ i. run_added t.words t.test t.signature (answer_of run) (written t.signature [] (sym is i))
-    (sym before i))
+runs_did t files runs old new run is before ran = search (rules, run_is)
 
 ran_did : (t : Task) (out : SinkState) (files : Files) (runs : List DeviceRun) (old new : HostState)
     (run : DeviceRun) → old.files ≡ Some files → old.runs ≡ Some runs → RanOnce t files runs new run
     → contents (world new out) ≡ after (emptying t ∷ running t run ∷ []) (contents (world old out))
-ran_did t out files runs old new run is before ran =
-    let f = files_did t files runs old new run is ran in
-    let r = runs_did t files runs old new run is before ran in
-    λ i. record { files = f i; runs = r i; out = out.bytes }
+ran_did t out files runs old new run is before ran = search (rules, files_did, runs_did)
 
 -- the run was made, and its file isn't read yet
 ran_reaches : (t : Task) (out : SinkState) (files : Files) (runs : List DeviceRun)
@@ -97,11 +77,7 @@ read_left : (t : Task) (files : Files) (run : DeviceRun) (before : Option Files)
     → before ≡ Some files
     → left_by t.signature (answer_of run) (written t.signature [] before) ≡ Some files'
     → files' t.signature ≡ run.after
-read_left t files run None files' is e = absurd cc
-read_left t files run (Some f) files' is e =
-    let same : with_left t.signature run.after (with_file t.signature [] f) ≡ files' = cc in
-    ap (λ (g : Files). g t.signature) (sym same)
-    ∙ at_name t.signature run.after (with_file t.signature [] f)
+read_left t files run before files' is e = search rules
 
 judged_reaches : (t : Task) (out : SinkState) (files : Files) (runs : List DeviceRun)
     (old new : HostState) (run : DeviceRun) (verdict : TestVerdict) → old.files ≡ Some files
@@ -121,61 +97,35 @@ elsewhere : (b : Bool) (left before : Option (List ℕ)) → b ≡ false
 elsewhere b left before e = rw e refl
 
 unnamed : (b : Bool) (other name : List ℕ) → bytes_eq other name ≡ b → other ≢ name → b ≡ false
-unnamed true other name e apart = absurd (apart ((bytes_eq-Decides other name).0 e))
-unnamed false other name e apart = refl
+unnamed b other name e apart = search rules
 
 others_kept : (name : List ℕ) (left : Option (List ℕ)) (files : Files) (other : List ℕ)
     → other ≢ name → with_left name left files other ≡ files other
-others_kept name left files other apart = elsewhere (bytes_eq other name) left (files other)
-    (unnamed (bytes_eq other name) other name refl apart)
+others_kept name left files other apart = grind (arith, elsewhere, bytes_eq, unnamed)
 
 may_spoil : (t : Task) (files : Files) (before now : Option Files) (left : Option (List ℕ))
     → before ≡ Some files → now ≡ Some (with_left t.signature left files)
     → (left ≡ files t.signature) ⊎ (left ≡ None) ⊎ (left ≡ Some [])
     → MaySpoil t.signature [] before now
-may_spoil t files before now left is now_is how =
-    let at : with_left t.signature left files t.signature ≡ left = at_name t.signature left files in
-    let spoils : Spoils t.signature [] files (with_left t.signature left files) = record {
-      others = λ other apart. others_kept t.signature left files other apart;
-      spoilt = elim how [
-        | inl same ↦ inl (at ∙ same)
-        | inr more ↦ elim more [
-          | inl none ↦ inr (inl (at ∙ none))
-          | inr empty ↦ inr (inr ([], [], refl, at ∙ empty))
-        ]
-      ];
-    } in
-    subst (λ (b : Option Files). MaySpoil t.signature [] b now) (sym is)
-    (with_left t.signature left files, now_is, spoils)
+may_spoil t files before now left is now_is how = grind (arith, at_name, others_kept, inl, inr)
 
 changes_one : (t : Task) (files : Files) (before now : Option Files) (left : Option (List ℕ))
     → before ≡ Some files → now ≡ Some (with_left t.signature left files)
     → ChangesOne t.signature (written t.signature [] before) now
-changes_one t files before now left is now_is =
-    subst (λ (b : Option Files). ChangesOne t.signature (written t.signature [] b) now) (sym is) (
-      with_left t.signature left files,
-      now_is,
-      λ other apart. others_kept t.signature left files other apart
-          ∙ sym (others_kept t.signature (Some []) files other apart),
-    )
+changes_one t files before now left is now_is = grind (arith, others_kept)
 
 -- nothing was done
 kept : (t : Task) (out : SinkState) (files : Files) (runs : List DeviceRun) (old new : HostState)
     → old.files ≡ Some files → old.runs ≡ Some runs → RanNone t files runs new (files t.signature)
     → contents (world new out) ≡ contents (world old out)
-kept t out files runs old new is before none =
-    let f : new.files ≡ old.files =
-    none.left ∙ ap (λ (g : Files). Some g) (sym (same_files t.signature files)) ∙ sym is in
-    let r : new.runs ≡ old.runs = none.same ∙ sym before in
-    λ i. record { files = f i; runs = r i; out = out.bytes }
+kept t out files runs old new is before none = search (rules, same_files)
 
 -- ---- by the result
 follows : (t : Task) (out : SinkState) (files : Files) (runs : List DeviceRun) (old new : HostState)
     (result : Result TestVerdict JudgeFault) → old.files ≡ Some files → old.runs ≡ Some runs → Left
     t files runs new result
     → Follows (judged t) (contents (world old out)) (contents (world new out)) (stopped t result)
-follows t out files runs old new (Ok verdict) is before left =
-    judged_reaches t out files runs old new left.0 verdict is before left.1 left.2
+follows t out files runs old new (Ok verdict) is before left = search (rules, judged_reaches)
 follows t out files runs old new (Err fault.Write) is before left = (
   [],
   record {
@@ -220,8 +170,7 @@ follows t out files runs old new (Err fault.NoMemory) is before (inr ran) =
 
 told_runs : (r : Option (List DeviceRun)) → is_some r ≡ true
     → (runs : List DeviceRun) × (r ≡ Some runs)
-told_runs None e = absurd cc
-told_runs (Some runs) e = (runs, refl)
+told_runs r e = grind arith
 
 -- what was done over told files is by the plan
 judged-follows : (t : Task) (out : SinkState) (old new : HostState)
@@ -262,35 +211,21 @@ judged-cause t out old new (Err fault.NoMemory) j = tt
 judged-unfaulted : (t : Task) (out : SinkState) (old new : HostState)
     (result : Result TestVerdict JudgeFault) → Judges t old new result → NoFault IsAnswer
     (world old out) (world new out) (stopped t result)
-judged-unfaulted t out old new (Ok verdict) j = record {
-  reads = λ told. j.cause.reads (inl told);
-  writes = j.cause.writes;
-  devices = j.cause.devices;
-  output = refl;
-}
+judged-unfaulted t out old new (Ok verdict) j = grind (arith, inl)
 judged-unfaulted t out old new (Err fault.Write) j =
     FirstFault-weaker Writing (world old out) (world new out) (j.cause out)
 judged-unfaulted t out old new (Err fault.Run) j =
     FirstFault-weaker Running (world old out) (world new out) (j.cause out)
 judged-unfaulted t out old new (Err fault.Read) j =
     FirstFault-weaker Reading (world old out) (world new out) (j.cause out)
-judged-unfaulted t out old new (Err fault.NoMemory) j = record {
-  reads = λ told. j.cause.reads;
-  writes = j.cause.writes;
-  devices = j.cause.devices;
-  output = refl;
-}
+judged-unfaulted t out old new (Err fault.NoMemory) j = grind arith
 
 -- ---- what was read
 -- what a device left is what its file then holds
 left-back : (t : Task) (answer : Answer) (before : Option Files) (files' : Files)
     → left_by t.signature answer (written t.signature [] before) ≡ Some files'
     → files' t.signature ≡ answer.left
-left-back t answer None files' e = absurd cc
-left-back t answer (Some f) files' e =
-    let same : with_left t.signature answer.left (with_file t.signature [] f) ≡ files' = cc in
-    ap (λ (g : Files). g t.signature) (sym same)
-    ∙ at_name t.signature answer.left (with_file t.signature [] f)
+left-back t answer before files' e = search rules
 
 -- judging goes this way where the device answers so
 way : (t : Task) (out : SinkState) {old new : HostState} {rest : Plan TestVerdict}
@@ -344,10 +279,5 @@ judged-reading t out old new (Err fault) j =
 pub Meets-judged : (t : Task) (out : SinkState) (old new : HostState)
     (result : Result TestVerdict JudgeFault) → Judges t old new result → MeetsWith IsAnswer
     (judged t) (world old out) (world new out) (stopped t result)
-Meets-judged t out old new result j = record {
-  later = judged-later t out old new result j;
-  cause = judged-cause t out old new result j;
-  unfaulted = judged-unfaulted t out old new result j;
-  told = judged-follows t out old new result j;
-  reading = judged-reading t out old new result j;
-}
+Meets-judged t out old new result j =
+    search (rules, judged-later, judged-cause, judged-unfaulted, judged-follows, judged-reading)

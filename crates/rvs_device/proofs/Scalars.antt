@@ -1,33 +1,24 @@
 -- The texts of a list of scalars, one after another.
 use Rattle.std.proofs.Common.{◌≡◌, ℕ, zero, suc, ◌+◌, Bool, true, false, ◌&&◌, List, [], ◌∷◌, ◌++◌}
-use Rattle.std.proofs.Common.{map, take, slice_get, Some, None, refl, sym, ap, subst, ◌∙◌}
+use Rattle.std.proofs.Common.{map, take, slice_get, Some, None, refl, sym, ap, ◌∙◌, arith}
+use Rattle.std.proofs.lemmas.Bool.{and_right}
 use Rattle.std.specs.List.{list_all}
 use Rattle.std.proofs.lemmas.List.{take_more, map-append}
 use Rattle.std.proofs.lemmas.List.Folds.{list_all-append}
 use Rattle.std.proofs.lemmas.Option.{slice_get_within, get_or_from_slice_get}
-use Rattle.rvs_tree.specs.Data.{Data, is_list, is_scalar, members_of, text_of}
+use Rattle.rvs_tree.specs.Data.{Data, is_scalar, members_of, text_of}
 use Rattle.rvs_device.specs.DeviceFile.{scalar_texts}
-
-and_false : (a b : Bool) → b ≡ false → (a && b) ≡ false
-and_false true b e = e
-and_false false b e = refl
 
 not_all : (ds : List Data) (i : ℕ) (d : Data) → slice_get ds i ≡ Some d → is_scalar d ≡ false
     → list_all is_scalar ds ≡ false
 not_all [] i d e f = absurd cc
-not_all (y ∷ ds) zero d e f = let same : d ≡ y = cc in let first : is_scalar y ≡ false =
-    subst (λ (x : Data). is_scalar x ≡ false) same f in rw first refl
-not_all (y ∷ ds) (suc i) d e f =
-    and_false (is_scalar y) (list_all is_scalar ds) (not_all ds i d e f)
+not_all (y ∷ ds) zero d e f = grind arith
+not_all (y ∷ ds) (suc i) d e f = simp (and_right, (not_all ds i d e f))
 
 -- a member is no scalar
 pub no-texts : (entry : Data) (i : ℕ) (d : Data) → slice_get (members_of entry) i ≡ Some d
     → is_scalar d ≡ false → scalar_texts entry ≡ None
-no-texts entry i d e f =
-    let test : (is_list entry && list_all is_scalar (members_of entry)) ≡ false = and_false
-    (is_list entry) (list_all is_scalar (members_of entry))
-    (not_all (members_of entry) i d e f) in
-    rw test refl
+no-texts entry i d e f = grind (arith, and_right, not_all)
 
 one_more : (ds : List Data) (i : ℕ) (d : Data) → slice_get ds i ≡ Some d
     → take (i + 1) ds ≡ take i ds ++ d ∷ []

@@ -1,15 +1,14 @@
 -- Device files: the device that a tree tells, or why it is refused.
-use Rattle.std.specs.Prelude.{◌≢◌, ℕ, ◌&&◌, not, if◌then◌else◌, List, map, Option, Some, None}
+use Rattle.std.specs.Prelude.{ℕ, ◌&&◌, not, if◌then◌else◌, List, map, Option, Some, None}
 use Rattle.std.specs.Prelude.{Result, Ok, Err, ok_or, codes}
 use Rattle.std.specs.Option.{option_and_then}
 use Rattle.std.specs.List.{find, list_all}
-use Rattle.rvs_text.specs.Outcomes.{◌>>=◌, AnswersWith}
+use Rattle.rvs_text.specs.Outcomes.{◌>>=◌}
 use Rattle.rvs_tree.specs.Data.{Data, scalar, is_list, is_scalar, text_of, members_of, value_at}
 use Rattle.rvs_device.specs.Command.{has_program, is_known}
 use Rattle.rvs_device.specs.declared.refusals.DeviceRefusal.{DeviceRefusal}
 use Rattle.rvs_device.specs.declared.refusals.DeviceRefusal.TheVariants.{MissingEntry, BadCommand}
 use Rattle.rvs_device.specs.declared.refusals.DeviceRefusal.TheVariants.{UnknownPlaceholder}
-use Rattle.rvs_device.specs.declared.refusals.DeviceRefusal.TheVariants.{NoMemory}
 
 -- a device's name, and the words of its command
 pub record Told : Type 0 where
@@ -75,7 +74,3 @@ told_in root = do
   name ← name_in root
   words ← command_words root
   Ok (record { name = name; command = words })
-
--- a call's answer is what a check comes to, or want of memory
-abbrev pub Answers : {A : Type 0} → Result A DeviceRefusal → Found A → Type 0
-Answers result found = AnswersWith (λ e. e ≢ NoMemory) (λ x. x) result found

@@ -5,7 +5,6 @@ use Rattle.rvs_base.specs.Number.{hex_word_of}
 use Rattle.rvs_device.specs.declared.refusals.DeviceRefusal.{DeviceRefusal}
 use Rattle.rvs_device.specs.declared.refusals.DeviceRefusal.TheVariants.{MissingEntry, BadCommand}
 use Rattle.rvs_device.specs.declared.refusals.DeviceRefusal.TheVariants.{UnknownPlaceholder}
-use Rattle.rvs_device.specs.declared.refusals.DeviceRefusal.TheVariants.{NoMemory}
 use Rattle.rvs_device.specs.declared.verdicts.TestVerdict.{TestVerdict}
 use Rattle.rvs_device.specs.declared.verdicts.TestVerdict.TheVariants as verdict
 
@@ -57,11 +56,9 @@ abbrev pub number_of : DeviceRefusal → ℕ
 number_of (MissingEntry name) = 1
 number_of BadCommand = 2
 number_of (UnknownPlaceholder word) = 3
-number_of NoMemory = 4
 
 -- the number, and the missing name or the whole word
 abbrev pub refusal_text : DeviceRefusal → List ℕ
 refusal_text (MissingEntry name) = codes "device 1 " ++ name
 refusal_text BadCommand = codes "device 2"
 refusal_text (UnknownPlaceholder word) = codes "device 3 " ++ word
-refusal_text NoMemory = codes "device 4"

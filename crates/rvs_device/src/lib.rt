@@ -13,7 +13,7 @@ mod words;
 pub use devices::Device;
 pub use filling::Filling;
 pub use judging::{JudgeFault, SIGNATURE_LIMIT, judge};
-pub use printing::{refusal_text, verdict_line};
+pub use printing::verdict_line;
 pub use reading::read_device;
 pub use refusals::DeviceRefusal;
 pub use verdicts::TestVerdict;

@@ -7,6 +7,7 @@ ghost use Rattle.rvs_device.specs.Printed.{too_long_line, verdict_line};
 
 use crate::{DeviceRefusal, TestVerdict};
 use rvs_base::{NoMemory, Text, hex_text};
+use rvs_fault::Refusal;
 use std::alloc::Global;
 
 /// The line of a verdict on the test of this label.
@@ -103,23 +104,19 @@ fn lengths_line(
     )?))
 }
 
-/// A refusal as a fault line has it behind the file's name: `device`, its number, and the missing
-/// name or the whole word.
-///
-/// # Errors
-///
-/// [`NoMemory`].
-pub fn refusal_text(alloc: Global, refusal: &DeviceRefusal) -> Result<Text, NoMemory>
-    ensures { IfOk result (λ text. text ≡ refusal_text refusal.now) }
-{
-    match refusal {
-        DeviceRefusal::MissingEntry { name } => Ok(Text::from(format!(in alloc;
-            "device 1 {name}"
-        )?)),
-        DeviceRefusal::BadCommand => Ok(Text::from(String::from_str(alloc, "device 2")?)),
-        DeviceRefusal::UnknownPlaceholder { word } => {
-            Ok(Text::from(format!(in alloc; "device 3 {word}")?))
-        },
-        DeviceRefusal::NoMemory => Ok(Text::from(String::from_str(alloc, "device 4")?)),
+impl Refusal for DeviceRefusal {
+    ghost said = { refusal_text };
+
+    /// `device`, the number, and the missing name or the whole word.
+    fn text(&self, alloc: Global) -> Result<Text, NoMemory> {
+        match self {
+            DeviceRefusal::MissingEntry { name } => Ok(Text::from(format!(in alloc;
+                "device 1 {name}"
+            )?)),
+            DeviceRefusal::BadCommand => Ok(Text::from(String::from_str(alloc, "device 2")?)),
+            DeviceRefusal::UnknownPlaceholder { word } => {
+                Ok(Text::from(format!(in alloc; "device 3 {word}")?))
+            },
+        }
     }
 }

@@ -2,8 +2,7 @@
 ghost use Rattle.std.specs.Prelude.{◌≡◌};
 ghost use Rattle.rvs_device.specs.Printed.{number_of};
 
-use rvs_base::{NoMemory, Text};
-use std::alloc::AllocError;
+use rvs_base::Text;
 
 /// Why a device file is refused.
 #[derive(Drop)]
@@ -21,12 +20,10 @@ pub enum DeviceRefusal {
         /// The first such word, whole.
         word: Text,
     },
-    /// The allocator refused.
-    NoMemory,
 }
 
 impl DeviceRefusal {
-    /// The number under which a fault line names the refusal: 1 to 4, in the order above.
+    /// The number under which a fault line names the refusal: 1 to 3, in the order above.
     pub fn number(&self) -> u8
         ensures { result ≡ number_of self.now }
     {
@@ -34,27 +31,6 @@ impl DeviceRefusal {
             DeviceRefusal::MissingEntry { .. } => 1,
             DeviceRefusal::BadCommand => 2,
             DeviceRefusal::UnknownPlaceholder { .. } => 3,
-            DeviceRefusal::NoMemory => 4,
         }
-    }
-}
-
-impl From<NoMemory> for DeviceRefusal {
-    ghost use Rattle.rvs_device.specs.declared.refusals.DeviceRefusal.TheVariants.{NoMemory};
-
-    ghost from_gives = { λ _ refusal. refusal ≡ NoMemory };
-
-    fn from(_: NoMemory) -> Self {
-        DeviceRefusal::NoMemory
-    }
-}
-
-impl From<AllocError> for DeviceRefusal {
-    ghost use Rattle.rvs_device.specs.declared.refusals.DeviceRefusal.TheVariants.{NoMemory};
-
-    ghost from_gives = { λ _ refusal. refusal ≡ NoMemory };
-
-    fn from(_: AllocError) -> Self {
-        DeviceRefusal::NoMemory
     }
 }

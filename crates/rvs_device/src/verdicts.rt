@@ -4,6 +4,7 @@ ghost use Rattle.rvs_sig.specs.Verdicts.{verdict_of};
 ghost use Rattle.rvs_device.specs.Judged.{compared, signature_limit, verdict_on};
 
 use rvs_base::NoMemory;
+use rvs_fault::Fault;
 use rvs_sig::{SigRefusal, Verdict, compare, read_words};
 use std::alloc::Global;
 
@@ -70,9 +71,11 @@ pub fn verdict_on(
     }
     match read_words(alloc, bytes) {
         Ok(words) => Ok(compared(status, &compare(words.as_slice(), reference))),
-        Err(SigRefusal::BadLine { line }) => Ok(TestVerdict::BadSignature { line, status }),
-        Err(SigRefusal::TooLong) => Ok(TestVerdict::TooLong { status }),
-        Err(SigRefusal::NoMemory) => Err(NoMemory),
+        Err(Fault::Refused(SigRefusal::BadLine { line })) => {
+            Ok(TestVerdict::BadSignature { line, status })
+        },
+        Err(Fault::Refused(SigRefusal::TooLong)) => Ok(TestVerdict::TooLong { status }),
+        Err(Fault::NoMemory) => Err(NoMemory),
     }
 }
 

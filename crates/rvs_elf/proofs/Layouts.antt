@@ -1,44 +1,19 @@
 -- Where the parts of a written file stand.
-use Rattle.std.proofs.Common.{◌≡◌, ℕ, ◌+◌, ◌-◌, ◌*◌, ◌/◌, ◌%◌, ◌^◌, ◌<◌, ◌≤◌, Bool, true, false}
-use Rattle.std.proofs.Common.{cond}
-use Rattle.std.proofs.Common.{Some, None, Result, Ok, Err, List, [], ◌∷◌, ◌++◌, length, take, drop}
-use Rattle.std.proofs.Common.{refl, ap, sym, ◌∙◌, subst}
-use Rattle.std.proofs.Common.{arith, length-append, replicate, append-nil, append_assoc}
+use Rattle.std.proofs.Common.{◌≡◌, ℕ, ◌+◌, ◌-◌, ◌*◌, ◌/◌, ◌^◌, ◌≤◌}
+use Rattle.std.proofs.Common.{Some, List, ◌++◌, length}
+use Rattle.std.proofs.Common.{refl, ap, ◌∙◌}
+use Rattle.std.proofs.Common.{arith, replicate, append_assoc}
 use Rattle.std.proofs.lemmas.List.{length-replicate}
-use Rattle.std.specs.Prelude.{nat_le, nat_lt, not, ◌&&◌}
-use Rattle.std.proofs.lemmas.Bool.{and_from}
-use Rattle.rvs_insn.specs.Memory.{Memory, HasRoom, text_limit, data_limit}
-use Rattle.rvs_insn.proofs.Regions.{text_most, data_most, text_before, data_before, regions_end}
-use Rattle.rvs_machine.specs.Image.{ImageValue, IsImage, is_image, if_image}
+use Rattle.rvs_insn.specs.Memory.{HasRoom}
+use Rattle.rvs_insn.proofs.Regions.{text_most, data_most}
+use Rattle.rvs_machine.specs.Image.{ImageValue, IsImage}
 use Rattle.rvs_elf.specs.declared.writing.Layout.{Layout}
-use Rattle.rvs_elf.specs.declared.header.Header.{Header}
-use Rattle.rvs_elf.specs.declared.entries.Segment.{Segment}
-use Rattle.rvs_elf.specs.declared.entries.Section.{Section}
-use Rattle.rvs_elf.specs.declared.marks.Marks.{Marks}
-use Rattle.rvs_elf.specs.declared.refusal.ElfRefusal.{ElfRefusal}
-use Rattle.rvs_elf.specs.declared.refusal.ElfRefusal.TheVariants as kind
-use Rattle.rvs_text.specs.Outcomes.{◌>>=◌}
 use Rattle.rvs_elf.specs.Parts.{part}
 use Rattle.rvs_elf.specs.Written as written
 use Rattle.rvs_elf.specs.Written.{elf_of}
-use Rattle.rvs_elf.specs.Header.{is_elf, is_executable, header_of, fields_of}
-use Rattle.rvs_elf.specs.Tables.{segment_of, section_of, all_entries, segments_of, symbols_of}
-use Rattle.rvs_elf.specs.Tables.{in_file, found, symbol_parts, with_bytes}
-use Rattle.rvs_elf.specs.Names.{marks_of, needed, mark_symbols}
-use Rattle.rvs_elf.specs.Executable.{image_of_elf, image_of, judged}
-use Rattle.rvs_elf.specs.Laws.{ReadsBack, RunsAlike, RunsAs, with_marks, marks_in}
-use Rattle.rvs_elf.specs.Loading.{Loaded, nothing_loaded, load, loaded, overlap, is_sound, fits}
-use Rattle.rvs_elf.specs.Loading.{with_segment, placed, placed_from, grow}
-use Rattle.std.specs.List.{list_any}
-use Rattle.std.specs.Prelude.{unwrap_or, is_some}
-use Rattle.std.proofs.lemmas.Bool.Decides.{nat_tests}
-use Rattle.std.proofs.lemmas.List.{nil_from_length}
-use Rattle.rvs_elf.proofs.Loads.{load_skips, load_takes, placed_alone}
-use Rattle.rvs_elf.proofs.Joined.{zero_test, le_test, number_of, word_back, part_behind, part_here}
+use Rattle.rvs_elf.proofs.Joined.{part_behind, part_here}
 use Rattle.rvs_elf.proofs.Joined.{part_all}
-use Rattle.rvs_elf.proofs.PartsBack.{made, header_back, loading, both, table, table_there, IsSmall}
-use Rattle.rvs_elf.proofs.PartsBack.{table_says, found_table, symbols_found, marks, marks_back}
-use Rattle.rvs_elf.proofs.MemoryBack.{image_memory, memory_back}
+use Rattle.rvs_elf.proofs.PartsBack.{IsSmall}
 
 -- ---- the file as a whole
 

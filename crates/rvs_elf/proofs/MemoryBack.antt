@@ -1,43 +1,28 @@
 -- The memory of an image is loaded as it was written.
-use Rattle.std.proofs.Common.{◌≡◌, ℕ, ◌+◌, ◌-◌, ◌*◌, ◌/◌, ◌%◌, ◌^◌, ◌<◌, ◌≤◌, Bool, true, false}
+use Rattle.std.proofs.Common.{◌≡◌, ℕ, ◌+◌, ◌-◌, ◌<◌, ◌≤◌, Bool, true, false}
 use Rattle.std.proofs.Common.{cond}
-use Rattle.std.proofs.Common.{Some, None, Result, Ok, Err, List, [], ◌∷◌, ◌++◌, length, take, drop}
-use Rattle.std.proofs.Common.{refl, ap, sym, ◌∙◌, subst, ◌⊎◌, inl, inr, min, max}
-use Rattle.std.proofs.Common.{arith, length-append, replicate, append-nil, append_assoc}
-use Rattle.std.proofs.lemmas.List.{length-replicate}
+use Rattle.std.proofs.Common.{Some, Ok, List, [], ◌∷◌, length}
+use Rattle.std.proofs.Common.{refl, ap, sym, ◌∙◌, ◌⊎◌, inl, inr, min, max}
+use Rattle.std.proofs.Common.{arith}
 use Rattle.std.specs.Prelude.{nat_le, nat_lt, not, ◌&&◌, ◌||◌}
-use Rattle.std.proofs.lemmas.Bool.{and_from, and_left, and_right, cases_lt, lt-leb}
-use Rattle.rvs_insn.specs.Memory.{Memory, HasRoom, text_limit, data_limit}
-use Rattle.rvs_insn.proofs.Regions.{text_most, data_most, text_before, data_before, regions_end}
-use Rattle.rvs_machine.specs.Image.{ImageValue, IsImage, is_image, if_image}
+use Rattle.std.proofs.lemmas.Bool.{and_from, and_left, and_right, cases_lt, lt-leb, or_left}
+use Rattle.rvs_insn.specs.Memory.{Memory, text_limit, data_limit}
+use Rattle.rvs_insn.proofs.Regions.{text_before, data_before}
 use Rattle.rvs_elf.specs.declared.writing.Layout.{Layout}
-use Rattle.rvs_elf.specs.declared.header.Header.{Header}
 use Rattle.rvs_elf.specs.declared.entries.Segment.{Segment}
-use Rattle.rvs_elf.specs.declared.entries.Section.{Section}
-use Rattle.rvs_elf.specs.declared.marks.Marks.{Marks}
-use Rattle.rvs_elf.specs.declared.refusal.ElfRefusal.{ElfRefusal}
-use Rattle.rvs_elf.specs.declared.refusal.ElfRefusal.TheVariants as kind
-use Rattle.rvs_text.specs.Outcomes.{◌>>=◌}
 use Rattle.rvs_elf.specs.Parts.{part}
 use Rattle.rvs_elf.specs.Written as written
 use Rattle.rvs_elf.specs.Written.{elf_of}
-use Rattle.rvs_elf.specs.Header.{is_elf, is_executable, header_of, fields_of}
-use Rattle.rvs_elf.specs.Tables.{segment_of, section_of, all_entries, segments_of, symbols_of}
-use Rattle.rvs_elf.specs.Tables.{in_file, found, symbol_parts, with_bytes}
-use Rattle.rvs_elf.specs.Names.{marks_of, needed, mark_symbols}
-use Rattle.rvs_elf.specs.Executable.{image_of_elf, image_of, judged}
-use Rattle.rvs_elf.specs.Laws.{ReadsBack, RunsAlike, RunsAs, with_marks, marks_in}
 use Rattle.rvs_elf.specs.Loading.{Loaded, nothing_loaded, load, loaded, overlap, is_sound, fits}
-use Rattle.rvs_elf.specs.Loading.{with_segment, placed, placed_from, grow, in_text, in_data}
+use Rattle.rvs_elf.specs.Loading.{with_segment, placed, placed_from, in_text, in_data}
 use Rattle.std.specs.List.{list_any}
-use Rattle.std.specs.Prelude.{unwrap_or, is_some}
+use Rattle.std.specs.Prelude.{unwrap_or}
 use Rattle.std.proofs.lemmas.Bool.Decides.{nat_tests}
+use Rattle.std.proofs.lemmas.Bool.{or_right}
 use Rattle.std.proofs.lemmas.List.{nil_from_length}
 use Rattle.rvs_elf.proofs.Loads.{load_skips, load_takes, placed_alone}
-use Rattle.rvs_elf.proofs.Joined.{zero_test, le_test, number_of, word_back, part_behind, part_here}
-use Rattle.rvs_elf.proofs.Joined.{part_all}
-use Rattle.rvs_elf.proofs.PartsBack.{made, header_back, loading, both, table, table_there, IsSmall}
-use Rattle.rvs_elf.proofs.PartsBack.{table_says, found_table, symbols_found, marks, marks_back}
+use Rattle.rvs_elf.proofs.Joined.{le_test}
+use Rattle.rvs_elf.proofs.PartsBack.{loading, both}
 
 -- ---- the memory
 
@@ -72,18 +57,12 @@ text_placed m bytes text size e f h =
     ∙ ap (λ o. record { text = placed 0 (0 + size) (unwrap_or o []) []; ram = [] }) e
     ∙ ap (λ l. record { text = l; ram = [] }) (placed_alone text size f)
 
-either_true : (a b : Bool) → a ≡ true → (a || b) ≡ true
-either_true a b h = grind arith
-
-or_second : (a b : Bool) → b ≡ true → (a || b) ≡ true
-or_second a b h = grind arith
-
 pub text_sound : (m : Memory) (size : ℕ) → size ≤ text_limit m
     → is_sound m [] (loading 116 m.text_base size) ≡ true
 unfolding loading
 text_sound m size h =
     and_from _ _ (and_from _ _ (le_test size size (omega arith))
-    (either_true _ (in_data m (loading 116 m.text_base size))
+    (or_left _ (in_data m (loading 116 m.text_base size))
     (within m.text_base size (text_limit m) h))) refl
 
 -- a segment of the text and one of the data share no address
@@ -169,7 +148,7 @@ pub ram_fits : (m : Memory) (at size : ℕ) → size ≤ data_limit m
 unfolding loading
 ram_fits m at size h =
     and_from _ _ (le_test size size (omega arith))
-    (or_second (in_text m (loading at m.data_base size)) _
+    (or_right (in_text m (loading at m.data_base size)) _
     (within m.data_base size (data_limit m) h))
 
 pub ram_second : (m : Memory) (bytes text ram : List ℕ) (at size : ℕ) (earlier : List Segment)

@@ -1,39 +1,26 @@
 -- Header, segments, symbols and marks are read as they were written.
-use Rattle.std.proofs.Common.{◌≡◌, ℕ, ◌+◌, ◌-◌, ◌*◌, ◌/◌, ◌%◌, ◌^◌, ◌<◌, ◌≤◌, Bool, true, false}
+use Rattle.std.proofs.Common.{◌≡◌, ℕ, ◌^◌, ◌<◌, ◌≤◌, Bool, true}
 use Rattle.std.proofs.Common.{cond}
-use Rattle.std.proofs.Common.{Some, None, Result, Ok, Err, List, [], ◌∷◌, ◌++◌, length, take, drop}
-use Rattle.std.proofs.Common.{refl, ap, sym, ◌∙◌, subst}
-use Rattle.std.proofs.Common.{arith, length-append, replicate, append-nil, append_assoc}
-use Rattle.std.proofs.lemmas.List.{length-replicate}
-use Rattle.std.specs.Prelude.{nat_le, nat_lt, not, ◌&&◌}
+use Rattle.std.proofs.Common.{Some, None, Ok, Err, List, [], ◌∷◌, ◌++◌, length, take, drop}
+use Rattle.std.proofs.Common.{refl, ap, ◌∙◌}
+use Rattle.std.proofs.Common.{arith, length-append}
+use Rattle.std.specs.Prelude.{◌&&◌}
 use Rattle.std.proofs.lemmas.Bool.{and_from, eq-eqb}
-use Rattle.rvs_machine.specs.Image.{ImageValue, IsImage, is_image, if_image}
 use Rattle.rvs_elf.specs.declared.writing.Layout.{Layout}
 use Rattle.rvs_elf.specs.declared.header.Header.{Header}
 use Rattle.rvs_elf.specs.declared.entries.Segment.{Segment}
 use Rattle.rvs_elf.specs.declared.entries.Section.{Section}
 use Rattle.rvs_elf.specs.declared.marks.Marks.{Marks}
-use Rattle.rvs_elf.specs.declared.refusal.ElfRefusal.{ElfRefusal}
 use Rattle.rvs_elf.specs.declared.refusal.ElfRefusal.TheVariants as kind
 use Rattle.rvs_text.specs.Outcomes.{◌>>=◌}
 use Rattle.rvs_elf.specs.Parts.{part}
 use Rattle.rvs_elf.specs.Written as written
 use Rattle.rvs_elf.specs.Written.{elf_of}
 use Rattle.rvs_elf.specs.Header.{is_elf, is_executable, header_of, fields_of}
-use Rattle.rvs_elf.specs.Tables.{segment_of, section_of, all_entries, segments_of, symbols_of}
-use Rattle.rvs_elf.specs.Tables.{in_file, found, symbol_parts, with_bytes}
-use Rattle.rvs_elf.specs.Names.{marks_of, needed, mark_symbols}
-use Rattle.rvs_elf.specs.Executable.{image_of_elf, image_of, judged}
-use Rattle.rvs_elf.specs.Laws.{ReadsBack, RunsAlike, RunsAs, with_marks, marks_in}
-use Rattle.rvs_elf.specs.Loading.{Loaded, nothing_loaded, load, loaded, overlap, is_sound, fits}
-use Rattle.rvs_elf.specs.Loading.{with_segment, placed, placed_from, grow}
-use Rattle.std.specs.List.{list_any}
-use Rattle.std.specs.Prelude.{unwrap_or, is_some}
-use Rattle.std.proofs.lemmas.Bool.Decides.{nat_tests}
-use Rattle.std.proofs.lemmas.List.{nil_from_length}
-use Rattle.rvs_elf.proofs.Loads.{load_skips, load_takes, placed_alone}
-use Rattle.rvs_elf.proofs.Joined.{zero_test, le_test, number_of, word_back, part_behind, part_here}
-use Rattle.rvs_elf.proofs.Joined.{part_all}
+use Rattle.rvs_elf.specs.Tables.{segment_of, section_of, all_entries}
+use Rattle.rvs_elf.specs.Tables.{in_file, found, symbol_parts}
+use Rattle.rvs_elf.specs.Names.{marks_of, needed}
+use Rattle.rvs_elf.proofs.Joined.{le_test, number_of, word_back}
 
 -- ---- the header
 

@@ -1,69 +1,38 @@
 -- What an expression depends on, and what its parts say.
-use Rattle.std.proofs.Common.{◌≡◌, Bool, true, false, not, ◌&&◌, ◌||◌, Option, Some, None}
-use Rattle.std.proofs.Common.{option_map, refl, sym, ap, ◌∙◌, List, [], ◌∷◌, map}
-use Rattle.std.specs.Prelude.{if◌then◌else◌, pos, ◌+ℤ◌, ◌-ℤ◌, ◌*ℤ◌, neg_ℤ}
-use Rattle.std.specs.Int.{int_rem_euclid}
+use Rattle.std.proofs.lemmas.Bool.Decides.{nat_tests}
+use Rattle.std.proofs.Common.{◌≡◌, Bool, true, not, ◌&&◌, ◌||◌, Option, Some, None}
+use Rattle.std.proofs.Common.{option_map, refl, sym, ap, ◌∙◌, List, [], ◌∷◌, map, arith, rules}
+use Rattle.std.proofs.lemmas.Bool.{and_from, or_left, or_right}
+use Rattle.std.specs.Prelude.{if◌then◌else◌, ◌+ℤ◌, ◌-ℤ◌, ◌*ℤ◌, neg_ℤ}
 use Rattle.rvs_expr_text.specs.declared.lexeme.NumName.{NumName}
-use Rattle.rvs_expr_text.specs.declared.lexeme.NumName.TheVariants.{Rs1Val, Rs2Val, ImmVal, EaAlign}
 use Rattle.rvs_expr_text.specs.declared.lexeme.RegName.{RegName}
 use Rattle.rvs_expr.specs.Typed.{Num, literal, named, minus, sum, difference, product, remainder}
-use Rattle.rvs_expr.specs.Typed.{Reg, fixed, register, NumChain, pair, more, RegChain, reg_pair}
+use Rattle.rvs_expr.specs.Typed.{Reg, NumChain, pair, more, RegChain, reg_pair}
 use Rattle.rvs_expr.specs.Typed.{reg_more, Formula, numbers, registers, negation, conjunction}
 use Rattle.rvs_expr.specs.Typed.{disjunction}
 use Rattle.rvs_expr.specs.Meaning.{Table, both, value, chain, reg_value, reg_chain, truth, is_true}
-use Rattle.rvs_expr.specs.Meaning.{holds, compare, equation}
+use Rattle.rvs_expr.specs.Meaning.{holds, compare}
 use Rattle.rvs_expr.specs.Parts.{same_name, among, num_within, chain_within, within, part, joined}
 use Rattle.rvs_expr.specs.Parts.{num_uses, chain_uses, uses}
 use Rattle.rvs_expr.specs.Only.{only_numbers, only_registers, holds_within}
 
 -- ---- truth values
-or-left : (x y : Bool) → x ≡ true → (x || y) ≡ true
-or-left true y e = refl
-or-left false y e = cc
-
-or-right : (x y : Bool) → y ≡ true → (x || y) ≡ true
-or-right true y e = refl
-or-right false y e = e
 
 and-left : (x y : Bool) → (x && y) ≡ true → x ≡ true
-and-left true y e = refl
-and-left false y e = cc
+and-left x y e = grind arith
 
 and-right : (x y : Bool) → (x && y) ≡ true → y ≡ true
-and-right true y e = e
-and-right false y e = cc
-
-and-true : (x : Bool) → (x && true) ≡ x
-and-true true = refl
-and-true false = refl
+and-right x y e = grind arith
 
 both-by : {A B C : Type 0} (f : A → B → C) (o p : Option A) (q r : Option B) → o ≡ p → q ≡ r
     → both f o q ≡ both f p r
 both-by f o p q r e h = ap (λ x. both f x q) e ∙ ap (λ y. both f p y) h
 
 same_name-self : (n : NumName) → same_name n n ≡ true
-same_name-self Rs1Val = refl
-same_name-self Rs2Val = refl
-same_name-self ImmVal = refl
-same_name-self EaAlign = refl
+same_name-self n = grind arith
 
 same_name-is : (m n : NumName) → same_name m n ≡ true → m ≡ n
-same_name-is Rs1Val Rs1Val e = refl
-same_name-is Rs1Val Rs2Val e = cc
-same_name-is Rs1Val ImmVal e = cc
-same_name-is Rs1Val EaAlign e = cc
-same_name-is Rs2Val Rs1Val e = cc
-same_name-is Rs2Val Rs2Val e = refl
-same_name-is Rs2Val ImmVal e = cc
-same_name-is Rs2Val EaAlign e = cc
-same_name-is ImmVal Rs1Val e = cc
-same_name-is ImmVal Rs2Val e = cc
-same_name-is ImmVal ImmVal e = refl
-same_name-is ImmVal EaAlign e = cc
-same_name-is EaAlign Rs1Val e = cc
-same_name-is EaAlign Rs2Val e = cc
-same_name-is EaAlign ImmVal e = cc
-same_name-is EaAlign EaAlign e = refl
+same_name-is m n e = grind arith
 
 -- ---- an expression of numbers depends on the numbers that it names
 -- the tables agree at the names that pass this test
@@ -76,28 +45,24 @@ value-frame t u (named n) h = h n (same_name-self n)
 value-frame t u (minus a) h = ap (option_map neg_ℤ) (value-frame t u a h)
 value-frame t u (sum a b) h =
     both-by (λ x y. x +ℤ y) _ _ _ _
-    (value-frame t u a (λ n e. h n (or-left (num_uses a n) (num_uses b n) e)))
-    (value-frame t u b (λ n e. h n (or-right (num_uses a n) (num_uses b n) e)))
+    (value-frame t u a (λ n e. h n (or_left (num_uses a n) (num_uses b n) e)))
+    (value-frame t u b (λ n e. h n (or_right (num_uses a n) (num_uses b n) e)))
 value-frame t u (difference a b) h =
     both-by (λ x y. x -ℤ y) _ _ _ _
-    (value-frame t u a (λ n e. h n (or-left (num_uses a n) (num_uses b n) e)))
-    (value-frame t u b (λ n e. h n (or-right (num_uses a n) (num_uses b n) e)))
+    (value-frame t u a (λ n e. h n (or_left (num_uses a n) (num_uses b n) e)))
+    (value-frame t u b (λ n e. h n (or_right (num_uses a n) (num_uses b n) e)))
 value-frame t u (product a b) h =
     both-by (λ x y. x *ℤ y) _ _ _ _
-    (value-frame t u a (λ n e. h n (or-left (num_uses a n) (num_uses b n) e)))
-    (value-frame t u b (λ n e. h n (or-right (num_uses a n) (num_uses b n) e)))
-value-frame t u (remainder a m) h =
-    ap (option_map (λ x. int_rem_euclid x (pos m))) (value-frame t u a h)
+    (value-frame t u a (λ n e. h n (or_left (num_uses a n) (num_uses b n) e)))
+    (value-frame t u b (λ n e. h n (or_right (num_uses a n) (num_uses b n) e)))
+value-frame t u (remainder a m) h = simp (option_map, (value-frame t u a h))
 
 chain-frame : (t u : Table) (c : NumChain) → Agree (chain_uses c) t u → chain t c ≡ chain u c
-chain-frame t u (pair a op b) h =
-    both-by (λ x y. (compare op x y, y)) _ _ _ _
-    (value-frame t u a (λ n e. h n (or-left (num_uses a n) (num_uses b n) e)))
-    (value-frame t u b (λ n e. h n (or-right (num_uses a n) (num_uses b n) e)))
+chain-frame t u (pair a op b) h = grind (arith, both-by, value-frame, or_left, or_right)
 chain-frame t u (more c op b) h =
     both-by (λ p y. (p.0 && compare op p.1 y, y)) _ _ _ _
-    (chain-frame t u c (λ n e. h n (or-left (chain_uses c n) (num_uses b n) e)))
-    (value-frame t u b (λ n e. h n (or-right (chain_uses c n) (num_uses b n) e)))
+    (chain-frame t u c (λ n e. h n (or_left (chain_uses c n) (num_uses b n) e)))
+    (value-frame t u b (λ n e. h n (or_right (chain_uses c n) (num_uses b n) e)))
 
 truth-frame : (t u : Table) (f : Formula) → only_numbers f ≡ true → Agree (uses f) t u
     → truth t f ≡ truth u f
@@ -107,15 +72,15 @@ truth-frame t u (negation a) o h = ap (option_map not) (truth-frame t u a o h)
 truth-frame t u (conjunction a b) o h =
     both-by (λ x y. x && y) _ _ _ _
     (truth-frame t u a (and-left (only_numbers a) (only_numbers b) o)
-    (λ n e. h n (or-left (uses a n) (uses b n) e)))
+    (λ n e. h n (or_left (uses a n) (uses b n) e)))
     (truth-frame t u b (and-right (only_numbers a) (only_numbers b) o)
-    (λ n e. h n (or-right (uses a n) (uses b n) e)))
+    (λ n e. h n (or_right (uses a n) (uses b n) e)))
 truth-frame t u (disjunction a b) o h =
     both-by (λ x y. x || y) _ _ _ _
     (truth-frame t u a (and-left (only_numbers a) (only_numbers b) o)
-    (λ n e. h n (or-left (uses a n) (uses b n) e)))
+    (λ n e. h n (or_left (uses a n) (uses b n) e)))
     (truth-frame t u b (and-right (only_numbers a) (only_numbers b) o)
-    (λ n e. h n (or-right (uses a n) (uses b n) e)))
+    (λ n e. h n (or_right (uses a n) (uses b n) e)))
 
 pub frame : (f : Formula) (t u : Table) → only_numbers f ≡ true
     → ((n : NumName) → uses f n ≡ true → t.num n ≡ u.num n) → holds t f ≡ holds u f
@@ -124,16 +89,12 @@ frame f t u o h = ap is_true (truth-frame t u f o h)
 -- ---- an expression of registers depends on the registers
 reg-frame : (t u : Table) → ((r : RegName) → t.reg r ≡ u.reg r) → (r : Reg)
     → reg_value t r ≡ reg_value u r
-reg-frame t u h (fixed n) = refl
-reg-frame t u h (register r) = h r
+reg-frame t u h r = grind arith
 
 reg-chain-frame : (t u : Table) → ((r : RegName) → t.reg r ≡ u.reg r) → (c : RegChain)
     → reg_chain t c ≡ reg_chain u c
-reg-chain-frame t u h (reg_pair a op b) =
-    both-by (λ x y. (equation op x y, y)) _ _ _ _ (reg-frame t u h a) (reg-frame t u h b)
-reg-chain-frame t u h (reg_more c op b) =
-    both-by (λ p y. (p.0 && equation op p.1 y, y)) _ _ _ _ (reg-chain-frame t u h c)
-    (reg-frame t u h b)
+reg-chain-frame t u h (reg_pair a op b) = grind (arith, both-by, reg-frame)
+reg-chain-frame t u h (reg_more c op b) = grind (arith, nat_tests, (reg-chain-frame t u h c))
 
 reg-truth-frame : (t u : Table) → ((r : RegName) → t.reg r ≡ u.reg r) → (f : Formula)
     → only_registers f ≡ true → truth t f ≡ truth u f
@@ -163,12 +124,10 @@ rest-is x y xs ys e = cc
 
 same-num : (t u : Table) (m n : NumName) → same_name m n ≡ true → t.num m ≡ u.num m
     → t.num n ≡ u.num n
-same-num t u m n s e =
-    ap (λ k. t.num k) (sym (same_name-is m n s)) ∙ e ∙ ap (λ k. u.num k) (same_name-is m n s)
+same-num t u m n s e = grind (arith, same_name-is)
 
 or-cases : {G : Type 0} (x y : Bool) → (x || y) ≡ true → (x ≡ true → G) → (y ≡ true → G) → G
-or-cases true y e f g = f refl
-or-cases false y e f g = g e
+or-cases h y e = grind arith
 
 agree-among : (t u : Table) (ns : List NumName) → map t.num ns ≡ map u.num ns → Agree (among ns) t u
 agree-among t u [] e n h = cc
@@ -202,10 +161,7 @@ num-among ns (remainder a m) w n h = num-among ns a w n h
 
 chain-among : (ns : List NumName) (c : NumChain) → chain_within ns c ≡ true → (n : NumName)
     → chain_uses c n ≡ true → among ns n ≡ true
-chain-among ns (pair a op b) w n h =
-    or-cases (num_uses a n) (num_uses b n) h
-    (num-among ns a (and-left (num_within ns a) (num_within ns b) w) n)
-    (num-among ns b (and-right (num_within ns a) (num_within ns b) w) n)
+chain-among ns (pair a op b) w n h = grind (arith, or-cases, num-among, and-left, and-right)
 chain-among ns (more c op b) w n h =
     or-cases (chain_uses c n) (num_uses b n) h
     (chain-among ns c (and-left (chain_within ns c) (num_within ns b) w) n)
@@ -229,23 +185,19 @@ uses-among ns (disjunction a b) w n h =
 whole-frame : (ns : List NumName) (f : Formula) (t u : Table) → only_numbers f ≡ true
     → Agree (among ns) t u → (b : Bool) → within ns f ≡ b
     → (if b then holds t f else true) ≡ (if b then holds u f else true)
-whole-frame ns f t u o h true w = frame f t u o (λ n e. h n (uses-among ns f w n e))
-whole-frame ns f t u o h false w = refl
+whole-frame ns f t u o h b w = search (rules, frame, uses-among)
 
 within-frame : (ns : List NumName) (f : Formula) (t u : Table) → only_numbers f ≡ true
     → Agree (among ns) t u → holds_within ns t f ≡ holds_within ns u f
-within-frame ns (numbers c) t u o h =
-    whole-frame ns (numbers c) t u o h (within ns (numbers c)) refl
+within-frame ns (numbers c) t u o h = search (rules, whole-frame)
 within-frame ns (registers c) t u o h = cc
-within-frame ns (negation a) t u o h =
-    whole-frame ns (negation a) t u o h (within ns (negation a)) refl
+within-frame ns (negation a) t u o h = search (rules, whole-frame)
 within-frame ns (conjunction a b) t u o h =
     ap (λ x. x && holds_within ns t b)
     (within-frame ns a t u (and-left (only_numbers a) (only_numbers b) o) h)
     ∙ ap (λ y. holds_within ns u a && y)
     (within-frame ns b t u (and-right (only_numbers a) (only_numbers b) o) h)
-within-frame ns (disjunction a b) t u o h =
-    whole-frame ns (disjunction a b) t u o h (within ns (disjunction a b)) refl
+within-frame ns (disjunction a b) t u o h = search (rules, whole-frame)
 
 pub frame_within : (ns : List NumName) (f : Formula) (t u : Table) → only_numbers f ≡ true
     → map t.num ns ≡ map u.num ns → holds_within ns t f ≡ holds_within ns u f
@@ -253,22 +205,14 @@ frame_within ns f t u o e = within-frame ns f t u o (agree-among t u ns e)
 
 -- ---- what is true makes its conjuncts true
 both-is : (o p : Option Bool) → is_true (both (λ x y. x && y) o p) ≡ (is_true o && is_true p)
-both-is None p = refl
-both-is (Some true) None = refl
-both-is (Some false) None = refl
-both-is (Some x) (Some y) = refl
+both-is o p = grind arith
 
 pub holds-both : (t : Table) (a b : Formula) → holds t (conjunction a b) ≡ (holds t a && holds t b)
 holds-both t a b = both-is (truth t a) (truth t b)
 
 whole-true : (t : Table) (f : Formula) (b : Bool) → holds t f ≡ true
     → (if b then holds t f else true) ≡ true
-whole-true t f true h = h
-whole-true t f false h = refl
-
-and-is : (x y : Bool) → x ≡ true → y ≡ true → (x && y) ≡ true
-and-is true y e h = h
-and-is false y e h = cc
+whole-true t f b h = grind arith
 
 pub whole_within : (ns : List NumName) (f : Formula) (t : Table) → holds t f ≡ true
     → holds_within ns t f ≡ true
@@ -276,11 +220,10 @@ whole_within ns (numbers c) t h = whole-true t (numbers c) (within ns (numbers c
 whole_within ns (registers c) t h = whole-true t (registers c) (within ns (registers c)) h
 whole_within ns (negation a) t h = whole-true t (negation a) (within ns (negation a)) h
 whole_within ns (conjunction a b) t h =
-    and-is (holds_within ns t a) (holds_within ns t b)
+    and_from (holds_within ns t a) (holds_within ns t b)
     (whole_within ns a t (and-left (holds t a) (holds t b) (sym (holds-both t a b) ∙ h)))
     (whole_within ns b t (and-right (holds t a) (holds t b) (sym (holds-both t a b) ∙ h)))
-whole_within ns (disjunction a b) t h =
-    whole-true t (disjunction a b) (within ns (disjunction a b)) h
+whole_within ns (disjunction a b) t h = simp whole-true
 
 -- ---- a part says what its conjuncts say
 abbrev part-holds-of : Table → Option Formula → Bool
@@ -289,24 +232,18 @@ part-holds-of t (Some p) = holds t p
 
 joined-holds : (t : Table) (o p : Option Formula)
     → part-holds-of t (joined o p) ≡ (part-holds-of t o && part-holds-of t p)
-joined-holds t None p = refl
-joined-holds t (Some f) None = sym (and-true (holds t f))
-joined-holds t (Some f) (Some g) = holds-both t f g
+joined-holds t o p = grind arith
 
 whole-holds : (t : Table) (f : Formula) (b : Bool)
     → part-holds-of t (if b then Some f else None) ≡ (if b then holds t f else true)
-whole-holds t f true = refl
-whole-holds t f false = refl
+whole-holds t f b = grind arith
 
 part-is : (ns : List NumName) (f : Formula) (t : Table)
     → part-holds-of t (part ns f) ≡ holds_within ns t f
 part-is ns (numbers c) t = whole-holds t (numbers c) (within ns (numbers c))
 part-is ns (registers c) t = whole-holds t (registers c) (within ns (registers c))
 part-is ns (negation a) t = whole-holds t (negation a) (within ns (negation a))
-part-is ns (conjunction a b) t =
-    joined-holds t (part ns a) (part ns b)
-    ∙ ap (λ x. x && part-holds-of t (part ns b)) (part-is ns a t)
-    ∙ ap (λ y. holds_within ns t a && y) (part-is ns b t)
+part-is ns (conjunction a b) t = simp (joined-holds, (part-is ns a t), (part-is ns b t))
 part-is ns (disjunction a b) t = whole-holds t (disjunction a b) (within ns (disjunction a b))
 
 pub part_holds : (ns : List NumName) (f p : Formula) (t : Table) → part ns f ≡ Some p

@@ -1,17 +1,18 @@
 -- The values that are read for the names of a formula tell whether it is true.
+use Rattle.std.proofs.lemmas.Bool.Decides.{nat_tests}
 use Rattle.std.proofs.Common.{◌≡◌, ◌≤◌, ◌^◌, ℕ, Bool, true, false, not, ◌&&◌, ◌||◌, Option, Some}
 use Rattle.std.proofs.Common.{None, option_map, refl, sym, ap, ◌∙◌, List, [], ◌∷◌, All, arith}
+use Rattle.std.proofs.lemmas.Bool.{or_left, or_right}
 use Rattle.std.specs.Prelude.{if◌then◌else◌, slice_index_or, ℤ, pos, ◌+ℤ◌, ◌-ℤ◌, ◌*ℤ◌, neg_ℤ}
 use Rattle.std.specs.Prelude.{unsigned_abs}
 use Rattle.std.specs.Int.{int_rem_euclid}
-use Rattle.std.proofs.lemmas.List.Elements.{All-cons}
 use Rattle.rvs_expr_text.specs.declared.lexeme.NumName.{NumName}
 use Rattle.rvs_expr_text.specs.declared.lexeme.NumName.TheVariants.{Rs1Val, Rs2Val, ImmVal, EaAlign}
 use Rattle.rvs_expr_text.specs.declared.lexeme.RegName.{RegName}
 use Rattle.rvs_expr_text.specs.declared.lexeme.RegName.TheVariants.{Rd, Rs1, Rs2, Var0, Var1, Var2}
 use Rattle.rvs_expr.specs.declared.names.Names.{Names}
 use Rattle.rvs_expr.specs.Typed.{Num, literal, named, minus, sum, difference, product, remainder}
-use Rattle.rvs_expr.specs.Typed.{Reg, fixed, register, NumChain, pair, more, RegChain, reg_pair}
+use Rattle.rvs_expr.specs.Typed.{Reg, NumChain, pair, more, RegChain, reg_pair}
 use Rattle.rvs_expr.specs.Typed.{reg_more, Formula, numbers, registers, negation, conjunction}
 use Rattle.rvs_expr.specs.Typed.{disjunction}
 use Rattle.rvs_expr.specs.Meaning.{Table, both, value, chain, reg_value, reg_chain, truth, is_true}
@@ -23,13 +24,6 @@ use Rattle.rvs_expr.specs.Named.{same_reg, is_reg, chain_uses_reg, uses_reg, any
 use Rattle.rvs_expr.specs.Named.{asked, sequence, nums_of, asked_regs, regs_of, read, holds_over}
 
 -- ---- truth values and options
-or-left : (a b : Bool) → a ≡ true → (a || b) ≡ true
-or-left true b e = refl
-or-left false b e = cc
-
-or-right : (a b : Bool) → b ≡ true → (a || b) ≡ true
-or-right true b e = refl
-or-right false b e = e
 
 both-is : {A B C : Type 0} (f : A → B → C) (o : Option A) (p : Option B) (x : A) (y : B)
     → o ≡ Some x → p ≡ Some y → both f o p ≡ Some (f x y)
@@ -37,9 +31,7 @@ both-is f o p x y g h = ap (λ q. both f q p) g ∙ ap (both f (Some x)) h
 
 both-none : {A B C : Type 0} (f : A → B → C) (o : Option A) (p : Option B) (x y : Bool)
     → (x || y) ≡ true → (x ≡ true → o ≡ None) → (y ≡ true → p ≡ None) → both f o p ≡ None
-both-none f o p true y e g h = ap (λ q. both f q p) (g refl)
-both-none f None p false y e g h = refl
-both-none f (Some v) p false y e g h = ap (both f (Some v)) (h e)
+both-none f o p = grind arith
 
 -- ---- where the values are those of the table
 record Gives (t : Table) (zs : List ℤ) (p : NumName → Bool) : Type 0 where
@@ -50,40 +42,28 @@ record GivesRegs (t : Table) (ns : List ℕ) (p : RegName → Bool) : Type 0 whe
 
 gives-left : (t : Table) (zs : List ℤ) (p q : NumName → Bool) → Gives t zs (λ n. p n || q n)
     → Gives t zs p
-gives-left t zs p q g = record { num = λ n e. g.num n (or-left (p n) (q n) e) }
+gives-left t zs p q g = record { num = λ n e. g.num n (or_left (p n) (q n) e) }
 
 gives-right : (t : Table) (zs : List ℤ) (p q : NumName → Bool) → Gives t zs (λ n. p n || q n)
     → Gives t zs q
-gives-right t zs p q g = record { num = λ n e. g.num n (or-right (p n) (q n) e) }
+gives-right t zs p q g = record { num = λ n e. g.num n (or_right (p n) (q n) e) }
 
 regs-left : (t : Table) (ns : List ℕ) (p q : RegName → Bool) → GivesRegs t ns (λ r. p r || q r)
     → GivesRegs t ns p
-regs-left t ns p q g = record { reg = λ r e. g.reg r (or-left (p r) (q r) e) }
+regs-left t ns p q g = record { reg = λ r e. g.reg r (or_left (p r) (q r) e) }
 
 regs-right : (t : Table) (ns : List ℕ) (p q : RegName → Bool) → GivesRegs t ns (λ r. p r || q r)
     → GivesRegs t ns q
-regs-right t ns p q g = record { reg = λ r e. g.reg r (or-right (p r) (q r) e) }
+regs-right t ns p q g = record { reg = λ r e. g.reg r (or_right (p r) (q r) e) }
 
 same-self : (n : NumName) → same_name n n ≡ true
-same-self Rs1Val = refl
-same-self Rs2Val = refl
-same-self ImmVal = refl
-same-self EaAlign = refl
-
-reg-self : (r : RegName) → same_reg r r ≡ true
-reg-self Rd = refl
-reg-self Rs1 = refl
-reg-self Rs2 = refl
-reg-self Var0 = refl
-reg-self Var1 = refl
-reg-self Var2 = refl
+same-self n = grind arith
 
 value-is : (t : Table) (zs : List ℤ) (a : Num) → Gives t zs (num_uses a)
     → value t a ≡ Some (number zs a)
 value-is t zs (literal z) g = refl
 value-is t zs (named n) g = g.num n (same-self n)
-value-is t zs (minus a) g =
-    ap (option_map neg_ℤ) (value-is t zs a (record { num = λ n e. g.num n e }))
+value-is t zs (minus a) g = simp (option_map, (value-is t zs a (record { num = λ n e. g.num n e })))
 value-is t zs (sum a b) g = both-is (λ x y. x +ℤ y) _ _ _ _ (value-is t zs a
     (gives-left t zs (num_uses a) (num_uses b) (record { num = λ n e. g.num n e }))) (value-is t zs
     b (gives-right t zs (num_uses a) (num_uses b) (record { num = λ n e. g.num n e })))
@@ -98,23 +78,18 @@ value-is t zs (remainder a n) g = ap (option_map (λ x. int_rem_euclid x (pos n)
 
 chain-is : (t : Table) (zs : List ℤ) (c : NumChain) → Gives t zs (chain_uses c)
     → chain t c ≡ Some (linked zs c, last zs c)
-chain-is t zs (pair a op b) g = both-is (λ x y. (compare op x y, y)) _ _ _ _ (value-is t zs a
-    (gives-left t zs (num_uses a) (num_uses b) (record { num = λ n e. g.num n e }))) (value-is t zs
-    b (gives-right t zs (num_uses a) (num_uses b) (record { num = λ n e. g.num n e })))
+chain-is t zs (pair a op b) g = grind (arith, both-is, value-is, gives-left, gives-right)
 chain-is t zs (more c op b) g = both-is (λ p y. (p.0 && compare op p.1 y, y)) _ _ _ _ (chain-is t zs
     c (gives-left t zs (chain_uses c) (num_uses b) (record { num = λ n e. g.num n e }))) (value-is t
     zs b (gives-right t zs (chain_uses c) (num_uses b) (record { num = λ n e. g.num n e })))
 
 reg-is : (t : Table) (ns : List ℕ) (a : Reg) → GivesRegs t ns (is_reg a)
     → reg_value t a ≡ Some (reg_number ns a)
-reg-is t ns (fixed n) g = refl
-reg-is t ns (register r) g = g.reg r (reg-self r)
+reg-is t ns a g = grind arith
 
 reg-chain-is : (t : Table) (ns : List ℕ) (c : RegChain) → GivesRegs t ns (chain_uses_reg c)
     → reg_chain t c ≡ Some (reg_linked ns c, last_reg ns c)
-reg-chain-is t ns (reg_pair a op b) g = both-is (λ x y. (equation op x y, y)) _ _ _ _
-    (reg-is t ns a (regs-left t ns (is_reg a) (is_reg b) (record { reg = λ r e. g.reg r e })))
-    (reg-is t ns b (regs-right t ns (is_reg a) (is_reg b) (record { reg = λ r e. g.reg r e })))
+reg-chain-is t ns (reg_pair a op b) g = grind (arith, both-is, reg-is, regs-left, regs-right)
 reg-chain-is t ns (reg_more c op b) g = both-is (λ p y. (p.0 && equation op p.1 y, y)) _ _ _ _
     (reg-chain-is t ns c
     (regs-left t ns (chain_uses_reg c) (is_reg b) (record { reg = λ r e. g.reg r e }))) (reg-is t ns
@@ -122,10 +97,8 @@ reg-chain-is t ns (reg_more c op b) g = both-is (λ p y. (p.0 && equation op p.1
 
 truth-is : (t : Table) (zs : List ℤ) (ns : List ℕ) (f : Formula) → Gives t zs (uses f)
     → GivesRegs t ns (uses_reg f) → truth t f ≡ Some (true_over zs ns f)
-truth-is t zs ns (numbers c) g h =
-    ap (option_map (λ p. p.0)) (chain-is t zs c (record { num = λ n e. g.num n e }))
-truth-is t zs ns (registers c) g h =
-    ap (option_map (λ p. p.0)) (reg-chain-is t ns c (record { reg = λ r e. h.reg r e }))
+truth-is t zs ns (numbers c) g h = grind (arith, option_map, chain-is)
+truth-is t zs ns (registers c) g h = grind (arith, option_map, reg-chain-is)
 truth-is t zs ns (negation a) g h = ap (option_map not)
     (truth-is t zs ns a (record { num = λ n e. g.num n e }) (record { reg = λ r e. h.reg r e }))
 truth-is t zs ns (conjunction a b) g h =
@@ -143,41 +116,24 @@ truth-is t zs ns (disjunction a b) g h =
 
 -- ---- where a name isn't there
 same-is : (m n : NumName) → same_name m n ≡ true → m ≡ n
-same-is Rs1Val Rs1Val e = refl
-same-is Rs2Val Rs2Val e = refl
-same-is ImmVal ImmVal e = refl
-same-is EaAlign EaAlign e = refl
-same-is _ _ e = cc
-
-same-reg-is : (m n : RegName) → same_reg m n ≡ true → m ≡ n
-same-reg-is Rd Rd e = refl
-same-reg-is Rs1 Rs1 e = refl
-same-reg-is Rs2 Rs2 e = refl
-same-reg-is Var0 Var0 e = refl
-same-reg-is Var1 Var1 e = refl
-same-reg-is Var2 Var2 e = refl
-same-reg-is _ _ e = cc
+same-is m n e = grind arith
 
 value-none : (t : Table) (n : NumName) → t.num n ≡ None → (a : Num) → num_uses a n ≡ true
     → value t a ≡ None
 value-none t n h (literal z) u = cc
 value-none t n h (named m) u = ap (λ k. t.num k) (same-is m n u) ∙ h
 value-none t n h (minus a) u = ap (option_map neg_ℤ) (value-none t n h a u)
-value-none t n h (sum a b) u = both-none (λ x y. x +ℤ y) _ _ (num_uses a n) (num_uses b n) u
-    (value-none t n h a) (value-none t n h b)
+value-none t n h (sum a b) u = grind (arith, both-none, (value-none t n h a), (value-none t n h b))
 value-none t n h (difference a b) u = both-none (λ x y. x -ℤ y) _ _ (num_uses a n) (num_uses b n) u
     (value-none t n h a) (value-none t n h b)
 value-none t n h (product a b) u = both-none (λ x y. x *ℤ y) _ _ (num_uses a n) (num_uses b n) u
     (value-none t n h a) (value-none t n h b)
-value-none t n h (remainder a m) u =
-    ap (option_map (λ x. int_rem_euclid x (pos m))) (value-none t n h a u)
+value-none t n h (remainder a m) u = simp (option_map, (value-none t n h a u))
 
 chain-none : (t : Table) (n : NumName) → t.num n ≡ None → (c : NumChain) → chain_uses c n ≡ true
     → chain t c ≡ None
-chain-none t n h (pair a op b) u = both-none (λ x y. (compare op x y, y)) _ _ (num_uses a n)
-    (num_uses b n) u (value-none t n h a) (value-none t n h b)
-chain-none t n h (more c op b) u = both-none (λ p y. (p.0 && compare op p.1 y, y)) _ _
-    (chain_uses c n) (num_uses b n) u (chain-none t n h c) (value-none t n h b)
+chain-none t n h (pair a op b) u = grind (arith, both-none, value-none)
+chain-none t n h (more c op b) u = grind (arith, both-none, value-none, (chain-none t n h c))
 
 truth-none : (t : Table) (n : NumName) → t.num n ≡ None → (f : Formula) → uses f n ≡ true
     → truth t f ≡ None
@@ -191,15 +147,12 @@ truth-none t n h (disjunction a b) u =
 
 reg-none : (t : Table) (r : RegName) → t.reg r ≡ None → (a : Reg) → is_reg a r ≡ true
     → reg_value t a ≡ None
-reg-none t r h (fixed n) u = cc
-reg-none t r h (register m) u = ap (λ k. t.reg k) (same-reg-is m r u) ∙ h
+reg-none t r h a u = grind arith
 
 reg-chain-none : (t : Table) (r : RegName) → t.reg r ≡ None → (c : RegChain)
     → chain_uses_reg c r ≡ true → reg_chain t c ≡ None
-reg-chain-none t r h (reg_pair a op b) u = both-none (λ x y. (equation op x y, y)) _ _ (is_reg a r)
-    (is_reg b r) u (reg-none t r h a) (reg-none t r h b)
-reg-chain-none t r h (reg_more c op b) u = both-none (λ p y. (p.0 && equation op p.1 y, y)) _ _
-    (chain_uses_reg c r) (is_reg b r) u (reg-chain-none t r h c) (reg-none t r h b)
+reg-chain-none t r h (reg_pair a op b) u = grind (arith, both-none, reg-none)
+reg-chain-none t r h (reg_more c op b) u = grind (arith, nat_tests, (reg-chain-none t r h c))
 
 truth-reg-none : (t : Table) (r : RegName) → t.reg r ≡ None → (f : Formula) → uses_reg f r ≡ true
     → truth t f ≡ None
@@ -214,19 +167,14 @@ truth-reg-none t r h (disjunction a b) u = both-none (λ x y. x || y) _ _ (uses_
 -- ---- all that is asked for
 asked-some : {A : Type 0} (u : Bool) (d : A) (o : Option A) (x : A) → asked u d o ≡ Some x
     → u ≡ true → o ≡ Some x
-asked-some true d o x e u = e
-asked-some false d o x e u = cc
+asked-some h d = grind arith
 
 asked-none : {A : Type 0} (u : Bool) (d : A) (o : Option A) → asked u d o ≡ None
     → (u ≡ true) × (o ≡ None)
-asked-none true d o e = (refl, e)
-asked-none false d o e = absurd (cc)
+asked-none h = grind arith
 
 some-is : {A : Type 0} (x y : A) → Some x ≡ Some y → x ≡ y
 some-is x y e = cc
-
-none-some : {A : Type 0} (x : A) → None ≡ Some x → ⊥
-none-some x e = cc
 
 some-none : {A : Type 0} (x : A) → Some x ≡ None → ⊥
 some-none x e = cc
@@ -237,30 +185,13 @@ record Four (o p q r : Option ℤ) (zs : List ℤ) : Type 0 where
   pub at2 : q ≡ Some (slice_index_or zs 2 (pos 0))
   pub at3 : r ≡ Some (slice_index_or zs 3 (pos 0))
 
-four-same : (a b c d : ℤ) (zs : List ℤ) → a ∷ b ∷ c ∷ d ∷ [] ≡ zs
-    → Four (Some a) (Some b) (Some c) (Some d) zs
-four-same a b c d zs e = record {
-  at0 = ap (λ l. Some (slice_index_or l 0 (pos 0))) e;
-  at1 = ap (λ l. Some (slice_index_or l 1 (pos 0))) e;
-  at2 = ap (λ l. Some (slice_index_or l 2 (pos 0))) e;
-  at3 = ap (λ l. Some (slice_index_or l 3 (pos 0))) e;
-}
-
 four : (o p q r : Option ℤ) (zs : List ℤ) → sequence (o ∷ p ∷ q ∷ r ∷ []) ≡ Some zs
     → Four o p q r zs
-four None p q r zs e = absurd (none-some zs e)
-four (Some a) None q r zs e = absurd (none-some zs e)
-four (Some a) (Some b) None r zs e = absurd (none-some zs e)
-four (Some a) (Some b) (Some c) None zs e = absurd (none-some zs e)
-four (Some a) (Some b) (Some c) (Some d) zs e = four-same a b c d zs (some-is _ _ e)
+four o p q r zs e = grind arith
 
 one-of-four : (G : Type 0) (o p q r : Option ℤ) → (o ≡ None → G) → (p ≡ None → G) → (q ≡ None → G)
     → (r ≡ None → G) → sequence (o ∷ p ∷ q ∷ r ∷ []) ≡ None → G
-one-of-four G None p q r f g h k e = f refl
-one-of-four G (Some a) None q r f g h k e = g refl
-one-of-four G (Some a) (Some b) None r f g h k e = h refl
-one-of-four G (Some a) (Some b) (Some c) None f g h k e = k refl
-one-of-four G (Some a) (Some b) (Some c) (Some d) f g h k e = absurd (some-none _ e)
+one-of-four G o p q r f g h k e = grind arith
 
 record Six (o p q r s u : Option ℕ) (ns : List ℕ) : Type 0 where
   pub at0 : o ≡ Some (slice_index_or ns 0 0)
@@ -270,55 +201,22 @@ record Six (o p q r s u : Option ℕ) (ns : List ℕ) : Type 0 where
   pub at4 : s ≡ Some (slice_index_or ns 4 0)
   pub at5 : u ≡ Some (slice_index_or ns 5 0)
 
-six-same : (a b c d x y : ℕ) (ns : List ℕ) → a ∷ b ∷ c ∷ d ∷ x ∷ y ∷ [] ≡ ns
-    → Six (Some a) (Some b) (Some c) (Some d) (Some x) (Some y) ns
-six-same a b c d x y ns e = record {
-  at0 = ap (λ l. Some (slice_index_or l 0 0)) e;
-  at1 = ap (λ l. Some (slice_index_or l 1 0)) e;
-  at2 = ap (λ l. Some (slice_index_or l 2 0)) e;
-  at3 = ap (λ l. Some (slice_index_or l 3 0)) e;
-  at4 = ap (λ l. Some (slice_index_or l 4 0)) e;
-  at5 = ap (λ l. Some (slice_index_or l 5 0)) e;
-}
-
 six : (o p q r s u : Option ℕ) (ns : List ℕ) → sequence (o ∷ p ∷ q ∷ r ∷ s ∷ u ∷ []) ≡ Some ns
     → Six o p q r s u ns
-six None p q r s u ns e = absurd (none-some ns e)
-six (Some a) None q r s u ns e = absurd (none-some ns e)
-six (Some a) (Some b) None r s u ns e = absurd (none-some ns e)
-six (Some a) (Some b) (Some c) None s u ns e = absurd (none-some ns e)
-six (Some a) (Some b) (Some c) (Some d) None u ns e = absurd (none-some ns e)
-six (Some a) (Some b) (Some c) (Some d) (Some x) None ns e = absurd (none-some ns e)
-six (Some a) (Some b) (Some c) (Some d) (Some x) (Some y) ns e =
-    six-same a b c d x y ns (some-is _ _ e)
+six o p q r s u ns e = grind arith
 
 one-of-six : (G : Type 0) (o p q r s u : Option ℕ) → (o ≡ None → G) → (p ≡ None → G)
     → (q ≡ None → G) → (r ≡ None → G) → (s ≡ None → G) → (u ≡ None → G)
     → sequence (o ∷ p ∷ q ∷ r ∷ s ∷ u ∷ []) ≡ None → G
-one-of-six G None p q r s u f0 f1 f2 f3 f4 f5 e = f0 refl
-one-of-six G (Some a) None q r s u f0 f1 f2 f3 f4 f5 e = f1 refl
-one-of-six G (Some a) (Some b) None r s u f0 f1 f2 f3 f4 f5 e = f2 refl
-one-of-six G (Some a) (Some b) (Some c) None s u f0 f1 f2 f3 f4 f5 e = f3 refl
-one-of-six G (Some a) (Some b) (Some c) (Some d) None u f0 f1 f2 f3 f4 f5 e = f4 refl
-one-of-six G (Some a) (Some b) (Some c) (Some d) (Some x) None f0 f1 f2 f3 f4 f5 e = f5 refl
-one-of-six G (Some a) (Some b) (Some c) (Some d) (Some x) (Some y) f0 f1 f2 f3 f4 f5 e =
-    absurd (some-none _ e)
+one-of-six G o p q r s u f0 f1 f2 f3 f4 f5 e = grind arith
 
 -- ---- the names of a formula
 each-num : (P : NumName → Type 0) → P Rs1Val → P Rs2Val → P ImmVal → P EaAlign → (n : NumName) → P n
-each-num P a b c d Rs1Val = a
-each-num P a b c d Rs2Val = b
-each-num P a b c d ImmVal = c
-each-num P a b c d EaAlign = d
+each-num P a b c d n = grind arith
 
 each-reg : (P : RegName → Type 0) → P Rd → P Rs1 → P Rs2 → P Var0 → P Var1 → P Var2 → (r : RegName)
     → P r
-each-reg P a b c d x y Rd = a
-each-reg P a b c d x y Rs1 = b
-each-reg P a b c d x y Rs2 = c
-each-reg P a b c d x y Var0 = d
-each-reg P a b c d x y Var1 = x
-each-reg P a b c d x y Var2 = y
+each-reg P a b c d x y r = grind arith
 
 nums-give : (t : Table) (f : Formula) (zs : List ℤ) → nums_of (names_of f) t ≡ Some zs
     → Gives t zs (uses f)
@@ -373,18 +271,9 @@ asked-regs-none t f e = one-of-six (truth t f ≡ None) _ _ _ _ _ _ (missing t f
     missing t f r e = let p = asked-none (uses_reg f r) 0 (t.reg r) e in
         truth-reg-none t r p.1 f p.0
 
-true-false : true ≡ false → ⊥
-true-false e = cc
-
 none-any : (a b c d x y : Bool) → (a || (b || (c || (d || (x || y))))) ≡ false
     → (a ≡ false) × (b ≡ false) × (c ≡ false) × (d ≡ false) × (x ≡ false) × (y ≡ false)
-none-any true b c d x y e = absurd (true-false e)
-none-any false true c d x y e = absurd (true-false e)
-none-any false false true d x y e = absurd (true-false e)
-none-any false false false true x y e = absurd (true-false e)
-none-any false false false false true y e = absurd (true-false e)
-none-any false false false false false true e = absurd (true-false e)
-none-any false false false false false false e = (refl, refl, refl, refl, refl, refl)
+none-any a b c d x y e = grind arith
 
 false-true : false ≡ true → ⊥
 false-true e = cc
@@ -393,18 +282,7 @@ regs-give : (t : Table) (f : Formula) (ns : List ℕ) (any : Bool) → any_reg f
     → (if any then asked_regs (names_of f) t else Some (0 ∷ 0 ∷ 0 ∷ 0 ∷ 0 ∷ 0 ∷ [])) ≡ Some ns
     → GivesRegs t ns (uses_reg f)
 regs-give t f ns true a e = asked-regs-give t f ns e
-regs-give t f ns false a e =
-    let n = none-any (uses_reg f Rd) (uses_reg f Rs1) (uses_reg f Rs2) (uses_reg f Var0)
-    (uses_reg f Var1) (uses_reg f Var2) a in
-    record {
-      reg = each-reg (λ r. uses_reg f r ≡ true → t.reg r ≡ Some (slice_index_or ns (reg_place r) 0))
-          (λ u. absurd (false-true (sym n.0 ∙ u)))
-          (λ u. absurd (false-true (sym n.1 ∙ u)))
-          (λ u. absurd (false-true (sym n.2 ∙ u)))
-          (λ u. absurd (false-true (sym n.3 ∙ u)))
-          (λ u. absurd (false-true (sym n.4 ∙ u)))
-          (λ u. absurd (false-true (sym n.5 ∙ u)));
-    }
+regs-give t f ns false a e = grind (arith, none-any, each-reg, false-true)
 
 regs-none : (t : Table) (f : Formula) (any : Bool)
     → (if any then asked_regs (names_of f) t else Some (0 ∷ 0 ∷ 0 ∷ 0 ∷ 0 ∷ 0 ∷ [])) ≡ None
@@ -426,15 +304,11 @@ read-by t f (Some zs) (Some ns) h k = truth-is t zs ns f (nums-give t f zs h)
 
 over-is : (o : Option (List ℤ × List ℕ)) (f : Formula)
     → is_true (option_map (λ (v : List ℤ × List ℕ). true_over v.0 v.1 f) o) ≡ holds_over o f
-over-is None f = refl
-over-is (Some v) f = refl
+over-is o f = grind arith
 
 pub holds_read : (t : Table) (f : Formula) (names : Names) → names ≡ names_of f
     → holds t f ≡ holds_over (read names t) f
-holds_read t f names e =
-    ap is_true (read-by t f (nums_of (names_of f) t) (regs_of (names_of f) t) refl refl)
-    ∙ over-is (read (names_of f) t) f
-    ∙ ap (λ n. holds_over (read n t) f) (sym e)
+holds_read t f names e = grind (arith, read-by, over-is)
 
 -- by what was read
 pub holds_by : (t : Table) (f : Formula) (names : Names) (o : Option (List ℤ × List ℕ))
@@ -445,8 +319,4 @@ holds_by t f names o e k = ap (λ p. holds_over p f) k ∙ sym (holds_read t f n
 pub all_four : (a b c d : ℤ) → unsigned_abs a ≤ 2 ^ 32 → unsigned_abs b ≤ 2 ^ 32
     → unsigned_abs c ≤ 2 ^ 32 → unsigned_abs d ≤ 2 ^ 32
     → All (λ z. unsigned_abs z ≤ 2 ^ 32) (a ∷ b ∷ c ∷ d ∷ [])
-all_four a b c d h i j k =
-    All-cons (λ (z : ℤ). unsigned_abs z ≤ 2 ^ 32) a (b ∷ c ∷ d ∷ []) h
-    (All-cons (λ (z : ℤ). unsigned_abs z ≤ 2 ^ 32) b (c ∷ d ∷ []) i
-    (All-cons (λ (z : ℤ). unsigned_abs z ≤ 2 ^ 32) c (d ∷ []) j
-    (All-cons (λ (z : ℤ). unsigned_abs z ≤ 2 ^ 32) d [] k (λ n z l. absurd (grind arith)))))
+all_four a b c d h i j k = grind arith

@@ -1,6 +1,6 @@
 -- A fault among the tokens of a front is a fault of each text that begins with it.
 use Rattle.std.proofs.Common.{◌≡◌, ℕ, ◌≤◌, false, List, [], ◌∷◌, ◌++◌, length, refl, sym, ap, ◌∙◌}
-use Rattle.std.proofs.Common.{append_assoc, Ok, Err}
+use Rattle.std.proofs.Common.{append_assoc, Err, arith}
 use Rattle.rvs_text.specs.Outcomes.{◌>>=◌}
 use Rattle.rvs_expr_text.specs.Refusal.{Found}
 use Rattle.rvs_expr_text.specs.Tree.{Tree}
@@ -22,8 +22,7 @@ next-refused : (found : Found State) (ts rest : List Token) (why : ExprRefusal)
     → ((y : State) → after_all y ts ≡ Err why → run y rest ≡ Err why)
     → (found >>= (λ next. after_all next ts)) ≡ Err why
     → (found >>= (λ next. run next rest)) ≡ Err why
-next-refused (Ok y) ts rest why k h = k y h
-next-refused (Err e) ts rest why k h = cc
+next-refused found ts rest why k h = grind arith
 
 pub refused-all : (s : State) (ts more : List Token) (why : ExprRefusal) → NoEnd ts
     → after_all s ts ≡ Err why → run s (ts ++ more) ≡ Err why
@@ -36,8 +35,7 @@ next-first : (found : Found State) (ts rest : List Token) (column : ℕ)
     → ((y : State) → run y rest ≡ (after_all y ts >>= (λ s. ended s column)))
     → (found >>= (λ next. run next rest))
     ≡ ((found >>= (λ next. after_all next ts)) >>= (λ s. ended s column))
-next-first (Ok y) ts rest column k = k y
-next-first (Err e) ts rest column k = refl
+next-first found ts rest column k = grind arith
 
 -- all faults before a text's end are faults of its fronts
 pub faults-of-fronts : (s : State) (ts : List Token) (column : ℕ) → NoEnd ts

@@ -2,8 +2,8 @@
 use Rattle.std.proofs.Common.{◌≡◌, ℕ, zero, suc, ◌+◌, ◌<◌, List, [], ◌∷◌, ◌++◌, length, map, drop}
 use Rattle.std.proofs.Common.{get_or, flat_map, refl, sym, ap, ◌∙◌, arith, append_assoc, append-nil}
 use Rattle.rvs_cgf.specs.GroupView.{point_view, skipped_view}
-use Rattle.rvs_cgf.specs.declared.group.Point.{Point}
-use Rattle.rvs_cgf.specs.declared.group.Skipped.{Skipped}
+use Rattle.rvs_points.specs.declared.group.Point.{Point}
+use Rattle.rvs_points.specs.declared.group.Skipped.{Skipped}
 use Rattle.rvs_count.specs.Report.{skipped_line}
 use Rattle.rvs_test_text.specs.declared.claim.Claim.{Claim}
 use Rattle.rvs_generate.specs.GenerateTexts.{point_line, case_at, claims_after, point_lines}

@@ -1,11 +1,15 @@
 -- The files of tests are told apart by their names.
 use Rattle.std.proofs.Common.{◌≡◌, ◌≢◌, ℕ, Bool, true, false, List, ◌++◌, append_assoc, Option}
 use Rattle.std.proofs.Common.{Some, if◌then◌else◌, codes, bytes_eq, slice_get, refl, sym, ap, ◌∙◌}
-use Rattle.std.proofs.Common.{arith}
+use Rattle.std.proofs.Common.{arith, ◌-◌, length, take}
 use mathlib.Core.List.{reverse}
 use Rattle.std.proofs.lemmas.List.{append_cancel_left, append_cancel_right, reverse-append}
-use Rattle.std.proofs.lemmas.Slice.Eq.{bytes_eq-Decides}
+use Rattle.std.specs.List.{ends_with}
+use Rattle.std.specs.Prelude.{nat_eq}
+use Rattle.std.proofs.lemmas.Bool.Decides.{Decides-eqb}
+use Rattle.std.proofs.lemmas.Slice.Eq.{bytes_eq-Decides, ends_is}
 use Rattle.rvs_generate.specs.Generate.{path_of}
+use Rattle.rvs_reference.specs.TestRun.{NamesText}
 use Rattle.rvs_generate.specs.TestFiles.{IsOther, files_of}
 
 -- ---- one name or another
@@ -51,6 +55,29 @@ other-ending work a b one other k x y first second differ same =
     ∙ second (reverse (work ++ (codes "/" ++ b))) in
     let no : x ≡ y = cc in
     differ no
+
+-- the name of a test is that of assembler text
+not-ending : (work name ending : List ℕ) (y : ℕ)
+    → ((rest : List ℕ) → slice_get (reverse ending ++ rest) 0 ≡ Some y) → 83 ≢ y
+    → ends_with nat_eq (path_of work name) ending ≡ false
+not-ending work name ending y last differ = by (ends_with nat_eq (path_of work name) ending) refl
+  where
+    by : (b : Bool) → ends_with nat_eq (path_of work name) ending ≡ b → b ≡ false
+    by false is = refl
+    by true is =
+        let path = path_of work name in
+        let front = take (length path - length ending) path in
+        let same = (ends_is Decides-eqb path ending (ends_with nat_eq path ending) refl).0 is in
+        let both : Some 83 ≡ Some y = ap (λ (xs : List ℕ). slice_get xs 0)
+        (sym (backwards work name (codes ".S")) ∙ ap reverse same ∙ reverse-append front ending)
+        ∙ last (reverse front) in
+        let no : 83 ≡ y = cc in absurd (differ no)
+
+pub names-text : (work name : List ℕ) → NamesText (path_of work name)
+names-text work name = (
+  not-ending work name (codes ".img") 103 (λ rest. refl) (λ same. omega (arith, same)),
+  not-ending work name (codes ".elf") 102 (λ rest. refl) (λ same. omega (arith, same)),
+)
 
 pub not-reference : (work a b : List ℕ) → path_of work a ≢ (files_of work b).reference
 not-reference work a b = other-ending work a b (codes ".S") (codes ".reference.sig") 0 83 103

@@ -8,8 +8,8 @@ use Rattle.rvs_plan.specs.declared.stop.Stop.TheVariants.{Refused}
 use Rattle.rvs_insn.specs.Isa.{Isa}
 use Rattle.rvs_cgf.specs.Groups.{Label}
 use Rattle.rvs_cgf.specs.GroupView.{label_view}
-use Rattle.rvs_cgf.specs.Valid.{IsValidIfSelected}
-use Rattle.rvs_cgf.specs.declared.group.Label.{Label as Code}
+use Rattle.rvs_points.specs.Valid.{IsValidIfSelected}
+use Rattle.rvs_points.specs.declared.group.Label.{Label as Code}
 use Rattle.rvs_test.specs.Made.{has_room}
 use Rattle.rvs_inputs.specs.GroupFiles.{Inputs, and_then}
 use Rattle.rvs_generate.specs.TestedInputs.{lacks_room, no_room, unless_for, with_room}

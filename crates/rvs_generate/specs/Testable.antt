@@ -2,7 +2,7 @@
 use Rattle.std.specs.Prelude.{◌≡◌, true, IsTrue}
 use Rattle.rvs_insn.specs.Isa.{Isa}
 use Rattle.rvs_cgf.specs.Groups.{Label}
-use Rattle.rvs_cgf.specs.Valid.{IsValid}
+use Rattle.rvs_points.specs.Valid.{IsValid}
 use Rattle.rvs_test.specs.Made.{has_room}
 
 -- a label is valid for a core, which has room for its test

@@ -8,7 +8,7 @@ use Rattle.rvs_plan.specs.declared.stop.Stop.{Stop}
 use Rattle.rvs_plan.specs.declared.stop.Stop.TheVariants.{Refused}
 use Rattle.rvs_insn.specs.Isa.{Isa}
 use Rattle.rvs_cgf.specs.Groups.{Label, refusal_at, at_label}
-use Rattle.rvs_cgf.specs.declared.refusal.CgfKind.TheVariants.{NoRoom}
+use Rattle.rvs_points.specs.declared.refusal.CgfKind.TheVariants.{NoRoom}
 use Rattle.rvs_test.specs.Made.{has_room}
 use Rattle.rvs_parts.specs.Parts.{PartValue}
 use Rattle.rvs_inputs.specs.GroupTexts.{group_text}

@@ -6,10 +6,11 @@ ghost use Rattle.rvs_generate.specs.GenerateView.{totals_view};
 ghost use Rattle.rvs_inputs.specs.GroupsView.{groups_view};
 ghost use Rattle.rvs_generate.specs.Testable.{IsTestableIfSelected};
 ghost use Rattle.rvs_generate.specs.Generate.{IsSaid};
-ghost use Rattle.rvs_generate.specs.Tests.{IsRunnable, test_with, tests_of_label, tests_of};
+ghost use Rattle.rvs_generate.specs.Tests.{IsReady, held, test_with, tests_of_label, tests_of};
 
 use crate::listing::{push_total, push_unselected};
 use crate::making::{Said, say_made};
+use crate::sources::Source;
 use rvs_base::{Items, NoMemory, Text};
 use rvs_cgf::Label;
 use rvs_inputs::Inputs;
@@ -31,14 +32,14 @@ pub struct Test {
 #[derive(Drop)]
 struct Gathering {
     said: Said,
-    tests: Items<Test>,
+    tests: Items<Source>,
 }
 
 /// The listing of all labels, and their tests.
 #[derive(Drop)]
 pub struct Gathered {
     pub text: Text,
-    pub tests: Items<Test>,
+    pub tests: Items<Source>,
 }
 
 /// Makes the tests of all labels, and says what they are.
@@ -51,8 +52,8 @@ pub fn gather_tests(alloc: Global, inputs: &Inputs) -> Result<Gathered, NoMemory
     ensures text { IfOk result (λ g.
         g.text ≡ texts.listing inputs.now.isa (groups_view inputs.now.groups)) }
     ensures tests { IfOk result (λ g.
-        g.tests ≡ tests_of inputs.now.isa (groups_view inputs.now.groups)) }
-    ensures runs { IfOk result (λ g. All (IsRunnable inputs.now.isa) g.tests) }
+        g.tests ≡ held (tests_of inputs.now.isa (groups_view inputs.now.groups))) }
+    ensures runs { IfOk result (λ g. All (IsReady inputs.now.isa) g.tests) }
 {
     let gathering = gather_labels(alloc, &inputs.isa, inputs.groups.as_slice())?;
     let Gathering { said, tests } = gathering;
@@ -74,8 +75,8 @@ fn gather_labels(alloc: Global, isa: &IsaSpec, labels: &[Label]) -> Result<Gathe
     requires { All (λ l. IsTestableIfSelected isa.now (label_view l)) labels.now }
     ensures said { IfOk result (λ g.
         IsSaid isa.now (groups_view labels.now) g.said.text (totals_view g.said.totals)) }
-    ensures tests { IfOk result (λ g. g.tests ≡ tests_of isa.now (groups_view labels.now)) }
-    ensures runs { IfOk result (λ g. All (IsRunnable isa.now) g.tests) }
+    ensures tests { IfOk result (λ g. g.tests ≡ held (tests_of isa.now (groups_view labels.now))) }
+    ensures runs { IfOk result (λ g. All (IsReady isa.now) g.tests) }
 {
     let mut said = Said::nothing(alloc);
     let mut tests = Items::new(alloc);
@@ -91,7 +92,7 @@ fn gather_label(
     isa: &IsaSpec,
     label: &Label,
     said: &mut Said,
-    tests: &mut Items<Test>,
+    tests: &mut Items<Source>,
 ) -> Result<(), NoMemory>
     requires { IsTestableIfSelected isa.now (label_view label.now) }
     ensures text { OnOk result (said.new.text
@@ -99,9 +100,9 @@ fn gather_label(
     ensures totals { OnOk result (totals_view said.new.totals
         ≡ texts.with_label isa.now (totals_view said.old.totals) (label_view label.now)) }
     ensures tests { OnOk result (tests.new
-        ≡ tests.old ++ tests_of_label isa.now (label_view label.now)) }
-    ensures runs { OnOk result (All (IsRunnable isa.now) tests.old
-        → All (IsRunnable isa.now) tests.new) }
+        ≡ tests.old ++ held (tests_of_label isa.now (label_view label.now))) }
+    ensures runs { OnOk result (All (IsReady isa.now) tests.old
+        → All (IsReady isa.now) tests.new) }
 {
     if label.selected {
         let made = say_made(alloc, isa, label, said)?;
@@ -116,15 +117,15 @@ fn push_test(
     label: &Label,
     text: Option<Text>,
     steps: u64,
-    tests: &mut Items<Test>,
+    tests: &mut Items<Source>,
 ) -> Result<(), NoMemory>
-    ensures { OnOk result (tests.new ≡ tests.old ++ test_with label.now.name steps text) }
+    ensures { OnOk result (tests.new ≡ tests.old ++ held (test_with label.now.name steps text)) }
 {
     match text {
         None => Ok(()),
         Some(text) => {
             let name = owned(alloc, label.name.as_str())?;
-            tests.push(Test { name, text, steps })
+            tests.push(Source::Held(Test { name, text, steps }))
         },
     }
 }

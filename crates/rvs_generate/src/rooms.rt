@@ -5,7 +5,7 @@ ghost use Rattle.rvs_plan.specs.World.{World, world};
 ghost use Rattle.rvs_plan.specs.Plan.{Ends};
 ghost use Rattle.rvs_plan.specs.Meets.{Meets};
 ghost use Rattle.rvs_cgf.specs.GroupView.{label_view};
-ghost use Rattle.rvs_cgf.specs.Valid.{IsValid, IsValidIfSelected};
+ghost use Rattle.rvs_points.specs.Valid.{IsValid, IsValidIfSelected};
 ghost use Rattle.rvs_test.specs.Made as made;
 ghost use Rattle.rvs_inputs.specs.Seen.{seen};
 ghost use Rattle.rvs_inputs.specs.GroupsView.{groups_view, inputs_view};
@@ -146,7 +146,8 @@ pub fn read_labels<H: Host>(
 ) -> Result<Inputs, Stop>
     ensures met { (out : SinkState) → Meets (part_inputs part.now isa.now families names.now)
         (world (H.state host.old) out) (world (H.state host.new) out) (seen inputs_view result) }
-    ensures testable { IfOk result (λ i. All (λ l. IsTestableIfSelected i.isa (label_view l)) i.groups) }
+    ensures testable { IfOk result
+        (λ i. All (λ l. IsTestableIfSelected i.isa (label_view l)) i.groups) }
 {
     let inputs = read_tested(alloc, host, isa, families, names)?;
     Ok(kept_inputs(alloc, inputs, part)?)
@@ -155,7 +156,8 @@ pub fn read_labels<H: Host>(
 fn kept_inputs(alloc: Global, inputs: Inputs, part: &Option<Part>) -> Result<Inputs, NoMemory>
     requires { All (λ l. IsTestableIfSelected inputs.isa (label_view l)) inputs.groups }
     ensures kept { IfOk result (λ i. inputs_view i ≡ parted_inputs part.now (inputs_view inputs)) }
-    ensures testable { IfOk result (λ i. All (λ l. IsTestableIfSelected i.isa (label_view l)) i.groups) }
+    ensures testable { IfOk result
+        (λ i. All (λ l. IsTestableIfSelected i.isa (label_view l)) i.groups) }
 {
     let Inputs { isa, groups } = inputs;
     let groups = kept_labels(alloc, groups, part)?;

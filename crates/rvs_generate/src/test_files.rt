@@ -3,6 +3,7 @@ ghost use Rattle.std.specs.Prelude.{◌≡◌, IfOk};
 ghost use Rattle.rvs_generate.specs.Generate.{path_of};
 ghost use Rattle.rvs_generate.specs.TestFiles.{files_of, files_at};
 
+use crate::sources::Given;
 use rvs_base::{NoMemory, Text};
 use rvs_words::owned;
 use std::alloc::Global;
@@ -42,17 +43,13 @@ impl TestFiles {
     /// # Errors
     ///
     /// [`NoMemory`].
-    pub fn of_place(
-        alloc: Global,
-        work: &Text,
-        place: usize,
-        test: &Text,
-    ) -> Result<TestFiles, NoMemory>
-        ensures { IfOk result (λ files. files ≡ files_at work.now place test.now) }
+    pub fn of_given(alloc: Global, work: &Text, given: &Given) -> Result<TestFiles, NoMemory>
+        ensures { IfOk result (λ files. files ≡ files_at work.now given.now.place given.now.name) }
     {
+        let place = given.place;
         let name = Text::from(format!(in alloc; "{place}")?);
         Ok(TestFiles {
-            test: owned(alloc, test.as_str())?,
+            test: owned(alloc, given.name.as_str())?,
             executable: executable_path(alloc, work, &name)?,
             reference: reference_path(alloc, work, &name)?,
             device: device_path(alloc, work, &name)?,

@@ -1,7 +1,7 @@
-//! What comes of the coverage groups and tests in `data/groups`, which is the folder `groups` of the
-//! repository: each row of `data/runs` is the words of a run on a host that has these files, and a
-//! specification for each core, and is told by its status and the last line of its output. A row is
-//! read when the program runs, so that it costs the proof nothing.
+//! What comes of the coverage groups and tests in `data/groups`, which is the folder `groups` of
+//! the repository: each row of `data/runs` is the words of a run on a host that has these files,
+//! and a specification for each core, and is told by its status and the last line of its output. A
+//! row is read when the program runs, so that it costs the proof nothing.
 #![tactic(auto)]
 
 mod runs;

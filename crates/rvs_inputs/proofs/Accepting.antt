@@ -1,17 +1,22 @@
 -- What comes of pieces of work that have no effects.
-use Rattle.std.proofs.Common.{◌≡◌, ◌≢◌, ℕ, List, Result, Ok, Err, refl, sym, subst}
+use Rattle.std.proofs.Common.{◌≡◌, ◌≢◌, ℕ, List, Result, Ok, Err, refl, sym, subst, inl, inr}
+use Rattle.rvs_fault.specs.Answers.{Answers, AnswersAs}
+use Rattle.rvs_fault.specs.declared.faults.Fault.{Fault}
+use Rattle.rvs_fault.specs.declared.faults.Fault.TheVariants as fault
 use Rattle.rvs_plan.specs.World.{World, contents}
 use Rattle.rvs_plan.specs.Plan.{Ends}
 use Rattle.rvs_plan.specs.Meets.{Meets}
+use Rattle.rvs_plan.specs.Refusing.{end_at, Stops}
 use Rattle.rvs_plan.specs.declared.stop.Stop.{Stop}
 use Rattle.rvs_plan.specs.declared.stop.Stop.TheVariants.{Refused, NoMemory}
 use Rattle.rvs_plan.proofs.Reaching.{Reaches-start}
 use Rattle.rvs_plan.proofs.Amounts.{IsUnread-same, ReadsOnWay-start}
-use Rattle.rvs_plan.proofs.Sequence.{Later-start, Unfaulted-start, Meets-gives}
+use Rattle.rvs_plan.proofs.Sequence.{Later-start, Unfaulted-start, Meets-gives, Meets-no_memory}
 use Rattle.rvs_yaml_text.specs.declared.kind.YamlKind.{YamlKind}
 use Rattle.rvs_yaml_text.specs.declared.kind.YamlKind.TheVariants as yaml
 use Rattle.rvs_yaml.specs.Parsed.{Parsed}
 use Rattle.rvs_yaml.specs.Reader.{Refuses}
+use Rattle.rvs_inputs.specs.Seen.{seen}
 
 pub Meets-refused : {A : Type 0} (text : List ℕ) (w : World)
     → Meets {A = A} (Ends (Err (Refused text))) w w (Err (Refused text))
@@ -35,6 +40,32 @@ pub Meets-refused_by : {A : Type 0} (end : Result A Stop) (text : List ℕ) (w :
 Meets-refused_by {A} end text w e =
     subst (λ (r : Result A Stop). Meets (Ends r) w w (Err (Refused text))) (sym e)
     (Meets-refused text w)
+
+-- what comes of an input, as the plan that ends so
+pub Meets-stops : {A R : Type 0} (said : R → List ℕ) (name : List ℕ) (found : Result A R)
+    (answer : Result A (Fault R)) (result : Result A Stop) (w : World) → Answers answer found
+    → Stops said name answer result → Meets (Ends (end_at said name found)) w w result
+Meets-stops said name found (Ok a) result w is stops = rw (is, stops) (Meets-gives a w)
+Meets-stops said name found (Err (fault.Refused r)) result w is (inl none) =
+    rw none (Meets-no_memory _ w)
+Meets-stops said name found (Err (fault.Refused r)) result w is (inr told) =
+    rw (is r refl, told) (Meets-refused _ w)
+Meets-stops said name found (Err fault.NoMemory) result w is none = rw none (Meets-no_memory _ w)
+
+-- the same where value and refusal are seen as what they stand for
+pub Meets-stops_as : {A B Q R : Type 0} (see : A → B) (look : Q → R) (said : R → List ℕ)
+    (name : List ℕ) (found : Result B R) (answer : Result A (Fault Q)) (result : Result A Stop)
+    (w : World) → AnswersAs see look answer found
+    → Stops (λ q. said (look q)) name answer result
+    → Meets (Ends (end_at said name found)) w w (seen see result)
+Meets-stops_as see look said name found (Ok a) result w is stops =
+    rw (is, stops) (Meets-gives (see a) w)
+Meets-stops_as see look said name found (Err (fault.Refused q)) result w is (inl none) =
+    rw none (Meets-no_memory _ w)
+Meets-stops_as see look said name found (Err (fault.Refused q)) result w is (inr told) =
+    rw (is q refl, told) (Meets-refused _ w)
+Meets-stops_as see look said name found (Err fault.NoMemory) result w is none =
+    rw none (Meets-no_memory _ w)
 
 -- a text that was refused, and not for want of memory, has this fault
 pub refused-is : (kind : YamlKind) (line : ℕ) (a : Parsed) → kind ≢ yaml.NoMemory

@@ -61,7 +61,8 @@ marked-more part place [] x =
 marked-more part place (y ∷ xs) x =
     ap (λ ys. marked_one (is_in part place) y ∷ ys) (marked-more part (place + 1) xs x)
     ∙ ap (λ (n : ℕ). marked_one (is_in part place) y
-    ∷ (marked_from part (place + 1) xs ++ marked_one (is_in part n) x ∷ [])) (places place (length xs))
+    ∷ (marked_from part (place + 1) xs ++ marked_one (is_in part n) x ∷ []))
+    (places place (length xs))
 
 pub marked_more : (part : Option PartValue) (xs : List Entry) (x : Entry)
     → marked part xs ++ marked_one (is_in part (length xs)) x ∷ [] ≡ marked part (xs ++ x ∷ [])

@@ -1,9 +1,9 @@
 -- What comes of a database of tests.
-use Rattle.std.specs.Prelude.{ℕ, ◌+◌, Bool, ◌&&◌, List, [], ◌∷◌, ◌++◌, Option, Result, Ok, Err}
-use Rattle.std.specs.Prelude.{codes}
+use Rattle.std.specs.Prelude.{ℕ, ◌+◌, Bool, ◌&&◌, List, [], ◌∷◌, Option, Result, Ok, Err}
 use Rattle.rvs_base.specs.Host.{Files}
 use Rattle.rvs_plan.specs.Plan.{Plan, Ends, gives, ◌>>=◌}
 use Rattle.rvs_plan.specs.Inputs.{input, part_end}
+use Rattle.rvs_plan.specs.Refusing.{end_at}
 use Rattle.rvs_plan.specs.declared.stop.Stop.{Stop}
 use Rattle.rvs_plan.specs.declared.stop.Stop.TheVariants.{Refused}
 use Rattle.rvs_parts.specs.Parts.{PartValue, is_in}
@@ -20,13 +20,8 @@ use Rattle.rvs_inputs.specs.GroupFiles.{and_then}
 abbrev pub database_limit : ℕ
 database_limit = 4_194_304
 
--- why the tree of the named file is no database: the first rule that is broken, and by which test
-unfoldable pub database_text : List ℕ → SelectRefusal → List ℕ
-database_text name refusal = name ++ (codes ": " ++ refusal_text refusal)
-
 abbrev pub checked_end : List ℕ → Result (List Entry) SelectRefusal → Result (List Entry) Stop
-checked_end name (Ok entries) = Ok entries
-checked_end name (Err refusal) = Err (Refused (database_text name refusal))
+checked_end name found = end_at refusal_text name found
 
 -- the tests in the tree of the named file, or why the file is refused
 abbrev pub tree_end : Isa → List ℕ → Parsed → Result (List Entry) Stop

@@ -1,8 +1,9 @@
 -- What comes of a device file.
-use Rattle.std.specs.Prelude.{ℕ, List, ◌++◌, Result, Ok, Err, codes}
+use Rattle.std.specs.Prelude.{ℕ, List, Result, Ok, Err}
 use Rattle.rvs_base.specs.Host.{Files}
 use Rattle.rvs_plan.specs.Plan.{Plan, Ends, ◌>>=◌}
 use Rattle.rvs_plan.specs.Inputs.{input, part_end}
+use Rattle.rvs_plan.specs.Refusing.{end_at}
 use Rattle.rvs_plan.specs.declared.stop.Stop.{Stop}
 use Rattle.rvs_plan.specs.declared.stop.Stop.TheVariants.{Refused}
 use Rattle.rvs_yaml.specs.Parsed.{Parsed, answer}
@@ -16,13 +17,8 @@ use Rattle.rvs_inputs.specs.GroupFiles.{and_then}
 abbrev pub device_limit : ℕ
 device_limit = 65536
 
--- why the tree of the named file tells no device: the first check that fails
-unfoldable pub device_text : List ℕ → DeviceRefusal → List ℕ
-device_text name refusal = name ++ (codes ": " ++ refusal_text refusal)
-
 abbrev pub checked_end : List ℕ → Result Told DeviceRefusal → Result Told Stop
-checked_end name (Ok told) = Ok told
-checked_end name (Err refusal) = Err (Refused (device_text name refusal))
+checked_end name found = end_at refusal_text name found
 
 -- the device that the tree of the named file tells, or why the file is refused
 abbrev pub tree_end : List ℕ → Parsed → Result Told Stop

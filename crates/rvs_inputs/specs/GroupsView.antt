@@ -2,7 +2,7 @@
 use Rattle.std.specs.Prelude.{List, map}
 use Rattle.rvs_cgf.specs.Groups.{Label}
 use Rattle.rvs_cgf.specs.GroupView.{label_view}
-use Rattle.rvs_cgf.specs.declared.group.Label.{Label as Code}
+use Rattle.rvs_points.specs.declared.group.Label.{Label as Code}
 use Rattle.rvs_inputs.specs.GroupFiles.{Inputs}
 use Rattle.rvs_inputs.specs.declared.group_files.Inputs.{Inputs as CodeInputs}
 

@@ -3,6 +3,7 @@ use Rattle.std.specs.Prelude.{ℕ, List, ◌++◌, Result, Ok, Err, codes, decim
 use Rattle.rvs_base.specs.Host.{Files}
 use Rattle.rvs_plan.specs.Plan.{Plan, Ends, ◌>>=◌}
 use Rattle.rvs_plan.specs.Inputs.{input, part_end}
+use Rattle.rvs_plan.specs.Refusing.{end_at}
 use Rattle.rvs_plan.specs.declared.stop.Stop.{Stop}
 use Rattle.rvs_plan.specs.declared.stop.Stop.TheVariants.{Refused}
 use Rattle.rvs_yaml.specs.Parsed.{Parsed, answer}
@@ -23,13 +24,8 @@ unfoldable pub yaml_text : List ℕ → ℕ → YamlKind → List ℕ
 yaml_text name line kind =
     name ++ (codes ": yaml " ++ (decimal (number_of kind) ++ (codes " line " ++ decimal line)))
 
--- why the tree of the named file is no specification: the first check that fails
-unfoldable pub isa_text : List ℕ → IsaRefusal → List ℕ
-isa_text name refusal = name ++ (codes ": " ++ refusal_text refusal)
-
 abbrev pub checked_end : List ℕ → Result AcceptedSpec IsaRefusal → Result AcceptedSpec Stop
-checked_end name (Ok said) = Ok said
-checked_end name (Err refusal) = Err (Refused (isa_text name refusal))
+checked_end name found = end_at refusal_text name found
 
 -- what the tree of the named file says, or why the file is refused
 abbrev pub tree_end : List ℕ → Parsed → Result AcceptedSpec Stop

@@ -1,18 +1,17 @@
 // Reading a database of tests.
-ghost use Rattle.std.specs.Prelude.{◌≡◌, ◌≢◌, IfOk};
 ghost use Rattle.rvs_base.specs.Sink.{SinkState};
 ghost use Rattle.rvs_plan.specs.World.{World, world};
 ghost use Rattle.rvs_plan.specs.Plan.{Ends};
 ghost use Rattle.rvs_plan.specs.Meets.{Meets};
 ghost use Rattle.rvs_tree.specs.TreeView.{view};
 ghost use Rattle.rvs_select.specs.Database.{database_of};
-ghost use Rattle.rvs_inputs.specs.DatabaseInput.{database_text, checked_end, checks, database_file};
+ghost use Rattle.rvs_inputs.specs.DatabaseInput.{checked_end, checks, database_file};
 
 use crate::isa_file::yaml_text;
-use rvs_base::{Host, NoMemory, Text};
+use rvs_base::{Host, Text};
 use rvs_insn::IsaSpec;
-use rvs_plan::{Stop, read_input};
-use rvs_select::{Database, SelectKind, SelectRefusal, read_database, refusal_text};
+use rvs_plan::{Stop, accepted, read_input};
+use rvs_select::{Database, read_database};
 use rvs_yaml::{Tree, parse};
 use std::alloc::Global;
 
@@ -51,27 +50,5 @@ fn check_tree(alloc: Global, isa: &IsaSpec, name: &str, tree: &Tree) -> Result<D
     ensures { (w : World)
         → Meets (Ends (checked_end name.now (database_of isa.now (view tree.now)))) w w result }
 {
-    match read_database(alloc, tree, isa) {
-        Ok(database) => Ok(database),
-        Err(refusal) => Err(Stop::Refused(database_text(alloc, name, &refusal)?)),
-    }
-}
-
-/// Why the tree of the named file is no database. There is no text where memory was wanting.
-fn database_text(alloc: Global, name: &str, refusal: &SelectRefusal) -> Result<Text, NoMemory>
-    ensures fault { IfOk result (λ _. refusal.now.kind ≢ SelectKind.NoMemory) }
-    ensures text { IfOk result (λ text. text ≡ database_text name.now refusal.now) }
-{
-    match refusal.kind {
-        SelectKind::NoMemory => Err(NoMemory),
-        _ => database_line(alloc, name, refusal),
-    }
-}
-
-#[tactic(auto, unfolding(crate::specs::DatabaseInput::database_text))]
-fn database_line(alloc: Global, name: &str, refusal: &SelectRefusal) -> Result<Text, NoMemory>
-    ensures { IfOk result (λ text. text ≡ database_text name.now refusal.now) }
-{
-    let text = refusal_text(alloc, refusal)?;
-    Ok(Text::from(format!(in alloc; "{name}: {text}")?))
+    accepted(alloc, name, read_database(alloc, tree, isa))
 }

@@ -1,5 +1,4 @@
 // Reading a device file.
-ghost use Rattle.std.specs.Prelude.{◌≡◌, ◌≢◌, IfOk};
 ghost use Rattle.rvs_base.specs.Sink.{SinkState};
 ghost use Rattle.rvs_plan.specs.World.{World, world};
 ghost use Rattle.rvs_plan.specs.Plan.{Ends};
@@ -8,12 +7,12 @@ ghost use Rattle.rvs_tree.specs.TreeView.{view};
 ghost use Rattle.rvs_device.specs.DeviceFile.{told_in};
 ghost use Rattle.rvs_device.specs.DeviceView.{told};
 ghost use Rattle.rvs_inputs.specs.Seen.{seen};
-ghost use Rattle.rvs_inputs.specs.DeviceInput.{device_text, checked_end, checks, device_file};
+ghost use Rattle.rvs_inputs.specs.DeviceInput.{checked_end, checks, device_file};
 
 use crate::isa_file::yaml_text;
-use rvs_base::{Host, NoMemory, Text};
-use rvs_device::{Device, DeviceRefusal, read_device, refusal_text};
-use rvs_plan::{Stop, read_input};
+use rvs_base::{Host, Text};
+use rvs_device::{Device, read_device};
+use rvs_plan::{Stop, accepted, read_input};
 use rvs_yaml::{Tree, parse};
 use std::alloc::Global;
 
@@ -47,27 +46,5 @@ fn check_tree(alloc: Global, name: &str, tree: &Tree) -> Result<Device, Stop>
     ensures { (w : World) → Meets (Ends (checked_end name.now (told_in (view tree.now)))) w w
         (seen told result) }
 {
-    match read_device(alloc, tree) {
-        Ok(device) => Ok(device),
-        Err(refusal) => Err(Stop::Refused(device_text(alloc, name, &refusal)?)),
-    }
-}
-
-/// Why the tree of the named file tells no device. There is no text where memory was wanting.
-fn device_text(alloc: Global, name: &str, refusal: &DeviceRefusal) -> Result<Text, NoMemory>
-    ensures fault { IfOk result (λ _. refusal.now ≢ DeviceRefusal.NoMemory) }
-    ensures text { IfOk result (λ text. text ≡ device_text name.now refusal.now) }
-{
-    match refusal {
-        DeviceRefusal::NoMemory => Err(NoMemory),
-        _ => device_line(alloc, name, refusal),
-    }
-}
-
-#[tactic(auto, unfolding(crate::specs::DeviceInput::device_text))]
-fn device_line(alloc: Global, name: &str, refusal: &DeviceRefusal) -> Result<Text, NoMemory>
-    ensures { IfOk result (λ text. text ≡ device_text name.now refusal.now) }
-{
-    let text = refusal_text(alloc, refusal)?;
-    Ok(Text::from(format!(in alloc; "{name}: {text}")?))
+    accepted(alloc, name, read_device(alloc, tree))
 }

@@ -6,7 +6,7 @@ ghost use Rattle.rvs_plan.specs.Plan.{Ends};
 ghost use Rattle.rvs_plan.specs.Meets.{Meets};
 ghost use Rattle.rvs_tree.specs.TreeView.{view};
 ghost use Rattle.rvs_cgf.specs.GroupView.{label_view, refusal_view};
-ghost use Rattle.rvs_cgf.specs.Valid.{IsValidIfSelected};
+ghost use Rattle.rvs_points.specs.Valid.{IsValidIfSelected};
 ghost use Rattle.rvs_cgf.specs.Groups.{groups_of};
 ghost use Rattle.rvs_inputs.specs.Seen.{seen};
 ghost use Rattle.rvs_inputs.specs.GroupsView.{groups_view, inputs_view};

@@ -7,12 +7,11 @@ ghost use Rattle.rvs_plan.specs.Meets.{Meets};
 ghost use Rattle.rvs_yaml_text.specs.Kinds.{number_of};
 ghost use Rattle.rvs_tree.specs.TreeView.{view};
 ghost use Rattle.rvs_isa.specs.Check.{checked};
-ghost use Rattle.rvs_inputs.specs.Specification.{yaml_text, isa_text, checked_end, checks};
-ghost use Rattle.rvs_inputs.specs.Specification.{specification};
+ghost use Rattle.rvs_inputs.specs.Specification.{yaml_text, checked_end, checks, specification};
 
 use rvs_base::{Host, NoMemory, Text};
-use rvs_isa::{AcceptedSpec, IsaKind, IsaRefusal, check, refusal_text};
-use rvs_plan::{Stop, read_input};
+use rvs_isa::{AcceptedSpec, check};
+use rvs_plan::{Stop, accepted, read_input};
 use rvs_yaml::{Tree, YamlKind, YamlRefusal, parse};
 use std::alloc::Global;
 
@@ -46,10 +45,7 @@ fn check_tree(alloc: Global, name: &str, tree: &Tree) -> Result<AcceptedSpec, St
     ensures { (w : World)
         → Meets (Ends (checked_end name.now (checked (view tree.now)))) w w result }
 {
-    match check(alloc, tree) {
-        Ok(said) => Ok(said),
-        Err(refusal) => Err(Stop::Refused(isa_text(alloc, name, &refusal)?)),
-    }
+    accepted(alloc, name, check(alloc, tree))
 }
 
 /// Why the named file has no tree. There is no text where memory was wanting.
@@ -74,23 +70,4 @@ fn yaml_line(alloc: Global, name: &str, line: u64, kind: YamlKind) -> Result<Tex
 {
     let number = kind.number();
     Ok(Text::from(format!(in alloc; "{name}: yaml {number} line {line}")?))
-}
-
-/// Why the tree of the named file is no specification. There is no text where memory was wanting.
-fn isa_text(alloc: Global, name: &str, refusal: &IsaRefusal) -> Result<Text, NoMemory>
-    ensures fault { IfOk result (λ _. refusal.now.kind ≢ IsaKind.NoMemory) }
-    ensures text { IfOk result (λ text. text ≡ isa_text name.now refusal.now) }
-{
-    match refusal.kind {
-        IsaKind::NoMemory => Err(NoMemory),
-        _ => isa_line(alloc, name, refusal),
-    }
-}
-
-#[tactic(auto, unfolding(crate::specs::Specification::isa_text))]
-fn isa_line(alloc: Global, name: &str, refusal: &IsaRefusal) -> Result<Text, NoMemory>
-    ensures { IfOk result (λ text. text ≡ isa_text name.now refusal.now) }
-{
-    let text = refusal_text(alloc, refusal)?;
-    Ok(Text::from(format!(in alloc; "{name}: {text}")?))
 }

@@ -1,5 +1,5 @@
 -- Where the regions of a core end.
-use Rattle.std.proofs.Common.{◌≡◌, ℕ, ◌+◌, ◌%◌, ◌^◌, ◌≤◌, refl, arith}
+use Rattle.std.proofs.Common.{◌≡◌, ◌+◌, ◌%◌, ◌^◌, ◌≤◌, refl, arith}
 use Rattle.std.proofs.lemmas.Bool.Decides.{nat_tests}
 use Rattle.rvs_insn.specs.Memory.{Memory, HasRoom, text_limit, data_limit}
 use Rattle.rvs_insn.specs.MemoryLaws.{RegionsAreApart, RegionsEnd, SomeLimits}
@@ -19,10 +19,7 @@ pub data_before : (m : Memory) → m.data_base ≤ m.text_base
 data_before m h = grind (arith, nat_tests)
 
 pub regions_end : RegionsEnd
-regions_end m r =
-    let t = r.text_low in
-    let d = r.data_low in
-    (grind (arith, nat_tests), grind (arith, nat_tests))
+regions_end m r = grind arith
 
 pub regions_are_apart : RegionsAreApart
 regions_are_apart m a b h k = grind (arith, nat_tests)
@@ -38,13 +35,7 @@ pub data_word : (m : Memory) → HasRoom m → m.data_base % 4 ≡ 0
 data_word m r = let e = r.data_page in omega arith
 
 pub text_limit_word : (m : Memory) → HasRoom m → text_limit m % 4 ≡ 0
-text_limit_word m r =
-    let e = r.text_page in
-    let f = r.data_page in
-    grind (arith, nat_tests)
+text_limit_word m r = grind arith
 
 pub data_limit_word : (m : Memory) → HasRoom m → data_limit m % 4 ≡ 0
-data_limit_word m r =
-    let e = r.text_page in
-    let f = r.data_page in
-    grind (arith, nat_tests)
+data_limit_word m r = grind arith

@@ -1,8 +1,8 @@
 -- What stands at paths that no check reads changes nothing.
-use Rattle.std.proofs.Common.{◌≡◌, ℕ, ◌<◌, Bool, false, List, [], ◌∷◌, get_or, Option, Some, None}
-use Rattle.std.proofs.Common.{option_map, Ok, Err, ok_or, All, codes, refl, ap, subst, sym, ◌∙◌}
-use Rattle.std.proofs.Common.{lit<}
-use Rattle.rvs_tree.specs.Data.{Data, scalar, sequence, mapping, is_map}
+use Rattle.std.proofs.Common.{◌≡◌, ℕ, ◌<◌, Bool, false, List, [], ◌∷◌, get_or, Option, Some}
+use Rattle.std.proofs.Common.{option_map, Ok, ok_or, All, codes, refl, ap, subst, sym, ◌∙◌}
+use Rattle.std.proofs.Common.{lit<, arith}
+use Rattle.rvs_tree.specs.Data.{Data, is_map}
 use Rattle.rvs_insn.specs.Isa.{Isa}
 use Rattle.rvs_insn.specs.Memory.{Memory, usual_memory, if_room}
 use Rattle.rvs_isa.specs.declared.accepted_spec.AcceptedSpec.{AcceptedSpec}
@@ -24,8 +24,7 @@ use Rattle.rvs_isa.specs.Refusal.{Path, Found, refusal_at}
 -- ---- a check that sees no more of an entry than is seen of it
 as_seen : {B : Type 0} (f : Option Data → B) → ((d : Data) → f (Some d) ≡ f (Some (seen d)))
     → (o : Option Data) → f o ≡ f (option_map seen o)
-as_seen f h None = refl
-as_seen f h (Some d) = h d
+as_seen f o = grind arith
 
 same : {B : Type 0} (f : Option Data → B) → ((d : Data) → f (Some d) ≡ f (Some (seen d)))
     → (o p : Option Data) → option_map seen o ≡ option_map seen p → f o ≡ f p
@@ -38,58 +37,44 @@ number_at path o =
     >>= (λ id. ok_or (number_in id) (refusal_at path BadNumber)))
 
 number_seen : (path : Path) (d : Data) → number_at path (Some d) ≡ number_at path (Some (seen d))
-number_seen path (scalar text line) = refl
-number_seen path (sequence ds line) = refl
-number_seen path (mapping es line) = refl
+number_seen path d = grind arith
 
 abbrev map_at : Path → Option Data → Found (Unit {0})
 map_at path o = ok_or o (refusal_at path MissingEntry) >>= (λ d. is_a_map path d)
 
 map_seen : (path : Path) (d : Data) → map_at path (Some d) ≡ map_at path (Some (seen d))
-map_seen path (scalar text line) = refl
-map_seen path (sequence ds line) = refl
-map_seen path (mapping es line) = refl
+map_seen path d = grind arith
 
 abbrev isa_at : Path → Option Data → Found Extensions
 isa_at path o = ok_or o (refusal_at path MissingEntry) >>= (λ isa. named (isa_in isa) path)
 
 isa_seen : (path : Path) (d : Data) → isa_at path (Some d) ≡ isa_at path (Some (seen d))
-isa_seen path (scalar text line) = refl
-isa_seen path (sequence ds line) = refl
-isa_seen path (mapping es line) = refl
+isa_seen path d = grind arith
 
 abbrev xlen_at : Path → Option Data → Found (Unit {0})
 xlen_at path o = or_absent tt (λ d. holds (is_xlen d) (refusal_at path BadXlen)) o
 
 xlen_seen : (path : Path) (d : Data) → xlen_at path (Some d) ≡ xlen_at path (Some (seen d))
-xlen_seen path (scalar text line) = refl
-xlen_seen path (sequence ds line) = refl
-xlen_seen path (mapping es line) = refl
+xlen_seen path d = grind arith
 
 abbrev size_at : Path → Option Data → Found ℕ
 size_at path o = or_absent 32 (λ d. ok_or (address_size d) (refusal_at path BadAddressSize)) o
 
 size_seen : (path : Path) (d : Data) → size_at path (Some d) ≡ size_at path (Some (seen d))
-size_seen path (scalar text line) = refl
-size_seen path (sequence ds line) = refl
-size_seen path (mapping es line) = refl
+size_seen path d = grind arith
 
 abbrev truth_at : Path → Option Data → Found Bool
 truth_at path o = or_absent false (λ d. ok_or (truth_in d) (refusal_at path BadTruth)) o
 
 truth_seen : (path : Path) (d : Data) → truth_at path (Some d) ≡ truth_at path (Some (seen d))
-truth_seen path (scalar text line) = refl
-truth_seen path (sequence ds line) = refl
-truth_seen path (mapping es line) = refl
+truth_seen path d = grind arith
 
 abbrev reset_at : Path → ℕ → Option Data → Found (Unit {0})
 reset_at path word o = or_absent tt (reset_value path word) o
 
 reset_seen : (path : Path) (word : ℕ) (d : Data)
     → reset_at path word (Some d) ≡ reset_at path word (Some (seen d))
-reset_seen path word (scalar text line) = refl
-reset_seen path word (sequence ds line) = refl
-reset_seen path word (mapping es line) = refl
+reset_seen path word d = grind arith
 
 -- the check of misa, with what the check of its reset value comes to
 abbrev misa_at : Path → Found (Unit {0}) → Option Data → Found (Unit {0})
@@ -97,18 +82,14 @@ misa_at path reset o = or_absent tt (λ misa. is_a_map path misa >> reset) o
 
 misa_seen : (path : Path) (reset : Found (Unit {0})) (d : Data)
     → misa_at path reset (Some d) ≡ misa_at path reset (Some (seen d))
-misa_seen path reset (scalar text line) = refl
-misa_seen path reset (sequence ds line) = refl
-misa_seen path reset (mapping es line) = refl
+misa_seen path reset d = grind arith
 
 abbrev base_at : Path → ℕ → Option Data → Found ℕ
 base_at path usual o = or_absent usual (page_in path) o
 
 base_seen : (path : Path) (usual : ℕ) (d : Data)
     → base_at path usual (Some d) ≡ base_at path usual (Some (seen d))
-base_seen path usual (scalar text line) = refl
-base_seen path usual (sequence ds line) = refl
-base_seen path usual (mapping es line) = refl
+base_seen path usual d = grind arith
 
 -- the memory of these addresses, or of what they come to
 abbrev both_at : Path → Found ℕ → Found ℕ → Found Memory
@@ -123,20 +104,16 @@ memory_at path both o =
 
 memory_seen : (path : Path) (both : Found Memory) (d : Data)
     → memory_at path both (Some d) ≡ memory_at path both (Some (seen d))
-memory_seen path both (scalar text line) = refl
-memory_seen path both (sequence ds line) = refl
-memory_seen path both (mapping es line) = refl
+memory_seen path both d = grind arith
 
 -- ---- one check after another
 chain : {A : Type 0} (x y : Found A) (f g : A → Found AcceptedSpec) → x ≡ y
     → ((a : A) → core_in (f a) ≡ core_in (g a)) → core_in (x >>= f) ≡ core_in (y >>= g)
-chain (Ok a) y f g e h = h a ∙ ap (λ z. core_in (z >>= g)) e
-chain (Err r) y f g e h = ap (λ z. core_in (z >>= g)) e
+chain h y = grind arith
 
 next : (x y : Found (Unit {0})) (f g : Found AcceptedSpec) → x ≡ y → core_in f ≡ core_in g
     → core_in (x >> f) ≡ core_in (y >> g)
-next (Ok a) y f g e h = h ∙ ap (λ z. core_in (z >> g)) e
-next (Err r) y f g e h = ap (λ z. core_in (z >> g)) e
+next x y f g e h = grind arith
 
 -- Two trees are alike at the paths that are read, with the key of the hart.
 abbrev AreAlike : List ℕ → Data → Data → Type 0
@@ -170,10 +147,7 @@ same_text hart a b alike =
 same_ram : (hart : List ℕ) (a b : Data) → AreAlike hart a b
     → base_entry hart (codes "data") usual_memory.data_base a
     ≡ base_entry hart (codes "data") usual_memory.data_base b
-same_ram hart a b alike =
-    let path = base_path hart (codes "data") in
-    same (base_at path usual_memory.data_base) (base_seen path usual_memory.data_base)
-    (entry_at path a) (entry_at path b) (alike_at hart a b alike 11 path (lit< tt) refl)
+same_ram hart a b alike = grind (arith, codes, same, base_seen, alike_at)
 
 same_memory : (hart : List ℕ) (a b : Data) → AreAlike hart a b
     → memory_entry hart a ≡ memory_entry hart b
@@ -239,9 +213,7 @@ abbrev root_at : Option Data → Found (Unit {0})
 root_at o = or_absent tt (is_a_map []) o
 
 root_seen : (d : Data) → root_at (Some d) ≡ root_at (Some (seen d))
-root_seen (scalar text line) = refl
-root_seen (sequence ds line) = refl
-root_seen (mapping es line) = refl
+root_seen d = grind arith
 
 pub others_change_nothing : OthersChangeNothing
 others_change_nothing a b number e alike =

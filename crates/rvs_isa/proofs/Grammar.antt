@@ -1,9 +1,9 @@
 -- The grammar of ISA texts: a text is read as the parts that spell it.
 use Rattle.std.proofs.Common.{◌≡◌, ℕ, ◌<◌, ◌==◌, Bool, true, false, ◌&&◌, ◌||◌, if◌then◌else◌, List}
 use Rattle.std.proofs.Common.{[], ◌∷◌, ◌++◌, length, take, drop, Option, Some, None, not, get_or}
-use Rattle.std.proofs.Common.{codes, bytes_eq, refl, ap, sym, subst, ◌∙◌, arith}
+use Rattle.std.proofs.Common.{codes, bytes_eq, refl, ap, sym, subst, ◌∙◌, arith, rules}
 use Rattle.std.specs.List.{list_any, list_all, prefix_len, take_while, join_with_byte, All}
-use Rattle.std.proofs.lemmas.Bool.{and_parts}
+use Rattle.std.proofs.lemmas.Bool.{and_parts, or_right}
 use Rattle.std.proofs.lemmas.Bool.Decides.{nat_tests}
 use Rattle.std.proofs.lemmas.List.{take-append-drop}
 use Rattle.std.proofs.Math.Seq.{take-append_seam, drop-append_seam}
@@ -27,10 +27,6 @@ weaker p q (x ∷ xs) f e =
     let parts = and_parts (p x) (list_all p xs) e in
     rw (f x parts.0) (weaker p q xs f parts.1)
 
-or_true : (a b : Bool) → b ≡ true → (a || b) ≡ true
-or_true true b e = refl
-or_true false b e = e
-
 among-order : (letters order : List ℕ) → are_in_order letters order ≡ true
     → list_all (among order) letters ≡ true
 among-order [] order e = refl
@@ -38,9 +34,9 @@ among-order (c ∷ cs) [] e = cc
 among-order (c ∷ cs) (o ∷ os) e =
     elim (o == c) as (λ v. (o == c) ≡ v → list_all (among (o ∷ os)) (c ∷ cs) ≡ true) [
       | true ↦ λ t. rw t (weaker (among os) (among (o ∷ os)) cs
-          (λ x h. or_true (o == x) (among os x) h) (among-order cs os (rw (t, are_in_order) at e)))
+          (λ x h. or_right (o == x) (among os x) h) (among-order cs os (rw (t, are_in_order) at e)))
       | false ↦ λ t. weaker (among os) (among (o ∷ os)) (c ∷ cs)
-          (λ x h. or_true (o == x) (among os x) h)
+          (λ x h. or_right (o == x) (among os x) h)
           (among-order (c ∷ cs) os (rw (t, are_in_order) at e))
     ] refl
 
@@ -64,14 +60,12 @@ names-some list = omega (arith, length-slice_split (λ c. c == 95) list)
 spelled-some : (underscore : Bool) (names : List (List ℕ)) → 0 < length names
     → spelled_names underscore names
     ≡ (if underscore then codes "_" else []) ++ join_with_byte 95 names
-spelled-some underscore [] h = absurd (omega arith)
-spelled-some underscore (n ∷ ns) h = refl
+spelled-some underscore names h = grind arith
 
 spelled-names_in : (underscore : Bool) (list : List ℕ)
     → spelled_names underscore (names_in list) ≡ (if underscore then codes "_" else []) ++ list
 spelled-names_in underscore list =
-    spelled-some underscore (names_in list) (names-some list)
-    ∙ ap (λ t. (if underscore then codes "_" else []) ++ t) (join_with_byte-slice_split 95 list)
+    simp (spelled-some, names-some, codes, join_with_byte-slice_split)
 
 behind-spelled : (tail : List ℕ)
     → (underscore : Bool) × (tail ≡ spelled_names underscore (names_behind tail))
@@ -96,16 +90,11 @@ no_underscore (z ∷ rest) e =
     (AllPass-from_list_all is_name_character rest characters.1 k d h))
 
 head_of_name : (name : List ℕ) → is_name name ≡ true → (rest : List ℕ) × (name ≡ 90 ∷ rest)
-head_of_name [] e = absurd (cc)
-head_of_name (z ∷ rest) e =
-    let parts = and_parts (z == 90) (not (length rest == 0) && list_all is_name_character rest) e in
-    (rest, ap (λ c. c ∷ rest) (is_number z 90 parts.0))
+head_of_name name e = grind arith
 
 split-joined : (n : List ℕ) (ns : List (List ℕ)) → list_all is_name (n ∷ ns) ≡ true
     → names_in (join_with_byte 95 (n ∷ ns)) ≡ n ∷ ns
-split-joined n [] e =
-    let parts = and_parts (is_name n) true e in
-    slice_split_none (λ c. c == 95) n (no_underscore n parts.0)
+split-joined n [] e = grind (arith, and_parts, slice_split_none, no_underscore)
 split-joined n (m ∷ ms) e =
     let parts = and_parts (is_name n) (list_all is_name (m ∷ ms)) e in
     slice_split_at (λ c. c == 95) n 95 (join_with_byte 95 (m ∷ ms)) (no_underscore n parts.0) refl
@@ -125,20 +114,11 @@ joined_first n ns e =
 
 no_letter_first : (underscore : Bool) (names : List (List ℕ)) → list_all is_name names ≡ true
     → prefix_len is_letter (spelled_names underscore names) ≡ 0
-no_letter_first underscore [] e = refl
-no_letter_first true (n ∷ ns) e = refl
-no_letter_first false (n ∷ ns) e =
-    let parts = and_parts (is_name n) (list_all is_name ns) e in
-    ap (prefix_len is_letter) (joined_first n ns parts.0).1
+no_letter_first underscore names e = grind arith
 
 names-spelled : (underscore : Bool) (names : List (List ℕ)) → list_all is_name names ≡ true
     → names_behind (spelled_names underscore names) ≡ names
-names-spelled underscore [] e = refl
-names-spelled true (n ∷ ns) e = split-joined n ns e
-names-spelled false (n ∷ ns) e =
-    let parts = and_parts (is_name n) (list_all is_name ns) e in
-    let joined = (joined_first n ns parts.0).1 in
-    ap names_behind joined ∙ ap names_in (sym joined) ∙ split-joined n ns e
+names-spelled underscore names e = search (rules, split-joined, and_parts, joined_first)
 
 -- ---- whole texts
 abbrev parts_if : ℕ → List ℕ → List (List ℕ) → Option Parts

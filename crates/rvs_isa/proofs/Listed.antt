@@ -1,8 +1,8 @@
 -- The paths that are listed as unread are those of entries at which no check looks.
 use Rattle.std.proofs.Common.{◌≡◌, ℕ, Bool, true, false, ◌||◌, ◌⊎◌, inl, inr, if◌then◌else◌, List}
 use Rattle.std.proofs.Common.{[], ◌∷◌, ◌++◌, Contains, All, flat_map, codes, bytes_eq, refl, sym}
-use Rattle.std.proofs.Common.{subst, arith, lit<}
-use Rattle.std.proofs.lemmas.Bool.{false_from_ne_true}
+use Rattle.std.proofs.Common.{subst, arith, lit<, rules}
+use Rattle.std.proofs.lemmas.Bool.{false_from_ne_true, or_parts, or_from}
 use Rattle.std.proofs.lemmas.List.Elements.{All-contains, All-from_recursion, Contains-append_left}
 use Rattle.std.proofs.lemmas.List.Elements.{Contains-append_right, Contains-append_cases}
 use Rattle.std.proofs.lemmas.List.Elements.{Contains-push_cases}
@@ -87,13 +87,6 @@ root_key_unread hart key e f =
       ),
     ))
 
-none_of_two : (a b : Bool) → (a || b) ≡ false → (a ≡ false) × (b ≡ false)
-none_of_two true b e = cc
-none_of_two false b e = (refl, e)
-
-two_none : (a b : Bool) → a ≡ false → b ≡ false → (a || b) ≡ false
-two_none a b e f = rw e f
-
 -- a key of the hart differs from those that are read
 pub record Differs (key : List ℕ) : Type 0 where
   pub misa : bytes_eq key (codes "misa") ≡ false
@@ -105,18 +98,10 @@ pub record Differs (key : List ℕ) : Type 0 where
 
 differs : (key : List ℕ) → bytes_eq key (codes "misa") ≡ false
     → bytes_eq key (codes "memory_map") ≡ false → is_checked key ≡ false → Differs key
-differs key m n e =
-    let a = none_of_two (bytes_eq key (codes "ISA")) _ e in
-    let b = none_of_two (bytes_eq key (codes "supported_xlen")) _ a.1 in
-    let c = none_of_two (bytes_eq key (codes "physical_addr_sz")) _ b.1 in
-    record { misa = m; memory = n; isa = a.0; xlen = b.0; size = c.0; misaligned = c.1 }
+differs key m n e = grind (arith, or_parts, bytes_eq, codes)
 
 unchecked : (key : List ℕ) → Differs key → is_checked key ≡ false
-unchecked key d =
-    two_none (bytes_eq key (codes "ISA")) _ d.isa
-    (two_none (bytes_eq key (codes "supported_xlen")) _ d.xlen
-    (two_none (bytes_eq key (codes "physical_addr_sz"))
-    (bytes_eq key (codes "hw_data_misaligned_support")) d.size d.misaligned))
+unchecked key d = grind (arith, or_from, bytes_eq, codes)
 
 hart_key_unread : (hart key : List ℕ) → Differs key → Contains (read_paths hart) (hart ∷ key ∷ [])
     → ⊥
@@ -185,7 +170,7 @@ memory_key_unread : (hart key : List ℕ)
     → (bytes_eq key (codes "text") || bytes_eq key (codes "data")) ≡ false
     → Contains (read_paths hart) (hart ∷ codes "memory_map" ∷ key ∷ []) → ⊥
 memory_key_unread hart key f =
-    let g = none_of_two (bytes_eq key (codes "text")) (bytes_eq key (codes "data")) f in
+    let g = or_parts (bytes_eq key (codes "text")) (bytes_eq key (codes "data")) f in
     let no_text = λ (s : codes "text" ≡ key). unequal key (codes "text") g.0 (sym s) in
     let no_data = λ (s : codes "data" ≡ key). unequal key (codes "data") g.1 (sym s) in
     not_among hart (hart ∷ codes "memory_map" ∷ key ∷ [])
@@ -218,13 +203,11 @@ memory_key_unread hart key f =
 -- ---- what is listed is unread
 either : {X : Type 0} (b : Bool) (xs ys : List X) (y : X) → Contains (if b then xs else ys) y
     → ((b ≡ true) × Contains xs y) ⊎ ((b ≡ false) × Contains ys y)
-either true xs ys y c = inl (refl, c)
-either false xs ys y c = inr (refl, c)
+either h = grind arith
 
 kept : {X : Type 0} (b : Bool) (x y : X) → Contains (if b then [] else x ∷ []) y
     → (b ≡ false) × (x ≡ y)
-kept true x y c = absurd (none_in y c)
-kept false x y c = (refl, only x y c)
+kept h = grind arith
 
 from_misa : (hart : List ℕ) (root entries misa : Data) (text : List ℕ)
     → Contains (own_pairs root) (hart, entries) → Contains (own_pairs entries) (codes "misa", misa)
@@ -331,18 +314,15 @@ listed_is_unread hart root text c =
 
 -- ---- what is unread is listed
 put : {X : Type 0} (b : Bool) (x y : X) → b ≡ false → x ≡ y → Contains (if b then [] else x ∷ []) y
-put true x y e f = cc
-put false x y e f = subst (λ z. Contains (x ∷ []) z) f (in_front x [])
+put h x = grind arith
 
 first : {X : Type 0} (b : Bool) (xs ys : List X) (y : X) → b ≡ true → Contains xs y
     → Contains (if b then xs else ys) y
-first true xs ys y e c = c
-first false xs ys y e c = cc
+first h xs = grind arith
 
 second : {X : Type 0} (b : Bool) (xs ys : List X) (y : X) → b ≡ false → Contains ys y
     → Contains (if b then xs else ys) y
-second true xs ys y e c = cc
-second false xs ys y e c = c
+second h xs = grind arith
 
 -- an entry of a map, where something holds of the path with its key
 abbrev pub IsListedIn : List ℕ → Data → List ℕ → Path → Type 0
@@ -379,8 +359,7 @@ through_hart hart root entries key value text there inside c =
 -- the key isn't that of a path that is read
 other_key : (hart key other : List ℕ) → (Contains (read_paths hart) (hart ∷ key ∷ []) → ⊥)
     → Contains (read_paths hart) (hart ∷ other ∷ []) → bytes_eq key other ≡ false
-other_key hart key other n c = differ key other
-    (λ s. n (subst (λ (k : List ℕ). Contains (read_paths hart) (hart ∷ k ∷ [])) (sym s) c))
+other_key hart key other n c = grind (arith, differ)
 
 listed_of_hart : (hart : List ℕ) (root : Data) (text : List ℕ)
     → IsListedIn hart root text (hart ∷ [])
@@ -425,7 +404,7 @@ listed_of_memory hart root text key leads n e =
     let differs_from = λ (other : List ℕ) (c : Contains (read_paths hart) (base_path hart other)).
     differ key other (λ s. n (subst (λ (k : List ℕ). Contains (read_paths hart) (base_path hart k))
     (sym s) c)) in
-    let none = two_none (bytes_eq key (codes "text")) (bytes_eq key (codes "data"))
+    let none = or_from (bytes_eq key (codes "text")) (bytes_eq key (codes "data"))
     (differs_from (codes "text") (10, lit< tt, refl))
     (differs_from (codes "data") (11, lit< tt, refl)) in
     let others : List (List ℕ) = if is_checked (codes "memory_map") then []
@@ -455,5 +434,4 @@ unread_is_listed hart root text u =
     u.2 u.1 u.3 u.4 u.5
 
 pub unread_are_listed : UnreadAreListed
-unread_are_listed hart root text =
-    (listed_is_unread hart root text, unread_is_listed hart root text)
+unread_are_listed hart root text = search (rules, listed_is_unread, unread_is_listed)

@@ -1,10 +1,11 @@
 -- Entry after entry of a map.
 use Rattle.std.proofs.Common.{◌≡◌, ℕ, ◌+◌, true, List, [], ◌∷◌, ◌++◌, Option, Some, None, map}
-use Rattle.std.proofs.Common.{option_map, slice_get, take, flat_map, ap, sym, ◌∙◌, refl, append-nil}
+use Rattle.std.proofs.Common.{option_map, slice_get, take, flat_map, ap, sym, ◌∙◌, append-nil}
+use Rattle.std.proofs.Common.{arith}
 use Rattle.std.proofs.lemmas.List.{take_more}
 use Rattle.std.proofs.lemmas.Option.{slice_get-map, slice_get_within, get_or_from_slice_get}
 use Rattle.std.proofs.lemmas.Grind.{flat_map-append}
-use Rattle.rvs_tree.specs.Data.{Data, Pairs, own_pairs, keys_of, members_of, is_map, mapping}
+use Rattle.rvs_tree.specs.Data.{Data, Pairs, own_pairs, keys_of, members_of, is_map}
 
 -- what the first entries of a map add
 abbrev pub first_entries : (List ℕ → Data → List (List ℕ)) → ℕ → Data → List (List ℕ)
@@ -12,17 +13,11 @@ first_entries unread i d = flat_map (λ p. unread p.0 p.1) (take i (own_pairs d)
 
 same_pair : (o : Option (List ℕ × Data)) (k : List ℕ) (v : Data) → option_map (λ p. p.0) o ≡ Some k
     → option_map (λ p. p.1) o ≡ Some v → o ≡ Some (k, v)
-same_pair None k v e f = cc
-same_pair (Some p) k v e f =
-    let k_is : p.0 ≡ k = cc in
-    let v_is : p.1 ≡ v = cc in
-    ap (λ x. Some (x, p.1)) k_is ∙ ap (λ y. Some (k, y)) v_is
+same_pair o k v e f = grind arith
 
 pair_at : (ps : Pairs) (i : ℕ) (k : List ℕ) (v : Data) → slice_get (map (λ p. p.0) ps) i ≡ Some k
     → slice_get (map (λ p. p.1) ps) i ≡ Some v → slice_get ps i ≡ Some (k, v)
-pair_at ps i k v e f =
-    same_pair (slice_get ps i) k v (sym (slice_get-map (λ p. p.0) ps i) ∙ e)
-    (sym (slice_get-map (λ p. p.1) ps i) ∙ f)
+pair_at ps i k v e f = grind (arith, same_pair, slice_get, slice_get-map)
 
 more_pairs : (unread : List ℕ → Data → List (List ℕ)) (i : ℕ) (ps : Pairs) (k : List ℕ) (v : Data)
     → slice_get ps i ≡ Some (k, v)
@@ -35,8 +30,7 @@ more_pairs unread i ps k v e =
     ∙ ap (λ t. flat_map (λ p. unread p.0 p.1) (take i ps) ++ t) (append-nil (unread k v))
 
 members_of_map : (d : Data) → is_map d ≡ true → members_of d ≡ map (λ p. p.1) (own_pairs d)
-members_of_map (mapping es line) e = refl
-members_of_map _ e = cc
+members_of_map d e = grind arith
 
 pub first-more : (unread : List ℕ → Data → List (List ℕ)) (i : ℕ) (d : Data) (k : List ℕ) (v : Data)
     → is_map d ≡ true

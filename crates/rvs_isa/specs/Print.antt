@@ -12,7 +12,7 @@ use Rattle.rvs_isa.specs.declared.refusal.IsaKind.TheVariants.{NotAMapping, Miss
 use Rattle.rvs_isa.specs.declared.refusal.IsaKind.TheVariants.{BadIsaText, UnsupportedExtension}
 use Rattle.rvs_isa.specs.declared.refusal.IsaKind.TheVariants.{BadXlen, BadAddressSize}
 use Rattle.rvs_isa.specs.declared.refusal.IsaKind.TheVariants.{MisaDisagrees, HartCount, BadTruth}
-use Rattle.rvs_isa.specs.declared.refusal.IsaKind.TheVariants.{BadNumber, BadMemory, NoMemory}
+use Rattle.rvs_isa.specs.declared.refusal.IsaKind.TheVariants.{BadNumber, BadMemory}
 use Rattle.rvs_isa.specs.declared.refusal.IsaRefusal.{IsaRefusal}
 use Rattle.rvs_isa.specs.Misa.{misa_word}
 
@@ -59,7 +59,6 @@ number_of HartCount = 8
 number_of BadTruth = 9
 number_of BadNumber = 10
 number_of BadMemory = 11
-number_of NoMemory = 12
 
 -- where the reset value disagrees, both words
 abbrev pub words_text : IsaKind → List ℕ

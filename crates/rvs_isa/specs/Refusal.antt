@@ -1,9 +1,7 @@
 -- What a check comes to: what it finds, or why the specification is refused.
-use Rattle.std.specs.Prelude.{◌≢◌, ℕ, List, Result}
+use Rattle.std.specs.Prelude.{ℕ, List, Result}
 use Rattle.std.specs.List.{join_with_byte}
-use Rattle.rvs_text.specs.Outcomes as outcomes
 use Rattle.rvs_isa.specs.declared.refusal.IsaKind.{IsaKind}
-use Rattle.rvs_isa.specs.declared.refusal.IsaKind.TheVariants.{NoMemory}
 use Rattle.rvs_isa.specs.declared.refusal.IsaRefusal.{IsaRefusal}
 
 -- the keys from the root to an entry
@@ -19,11 +17,3 @@ refusal_at path kind = record { path = path_text path; kind = kind }
 
 abbrev pub Found : Type 0 → Type 0
 Found A = Result A IsaRefusal
-
--- a call's answer, seen so, is what a check comes to, or want of memory
-abbrev pub AnswersWith : {A B : Type 0} → (A → B) → Result A IsaRefusal → Found B → Type 0
-AnswersWith see result found = outcomes.AnswersWith (λ e. e.kind ≢ NoMemory) see result found
-
--- a call's answer is what a check comes to, or want of memory
-abbrev pub Answers : {A : Type 0} → Result A IsaRefusal → Found A → Type 0
-Answers result found = AnswersWith (λ x. x) result found

@@ -1,13 +1,15 @@
 // The entries of a specification, and refusals at them.
-ghost use Rattle.std.specs.Prelude.{◌≡◌, ◌≢◌, IfOk, map, option_map};
+ghost use Rattle.std.specs.Prelude.{◌≡◌, IfOk, map, option_map};
+ghost use Rattle.rvs_fault.specs.Answers.{Answers, AnswersWith, IfRefused};
 ghost use Rattle.rvs_tree.specs.Data.{value_at};
 ghost use Rattle.rvs_tree.specs.TreeView.{view};
 ghost use Rattle.rvs_isa.specs.Entries.{entry_at};
 ghost use Rattle.rvs_isa.specs.Check.{needed, is_a_map};
-ghost use Rattle.rvs_isa.specs.Refusal.{Answers, AnswersWith, path_text, refusal_at};
+ghost use Rattle.rvs_isa.specs.Refusal.{path_text, refusal_at};
 
 use crate::refusal::{IsaKind, IsaRefusal};
 use rvs_base::{NoMemory, Text};
+use rvs_fault::Fault;
 use rvs_tree::Tree;
 use std::alloc::Global;
 
@@ -30,7 +32,11 @@ fn value_at<'t>(tree: &'t Tree, key: &str) -> Option<&'t Tree>
 }
 
 /// The entry at the end of a path, which has to be there.
-pub fn needed<'t>(alloc: Global, root: &'t Tree, path: &[&str]) -> Result<&'t Tree, IsaRefusal>
+pub fn needed<'t>(
+    alloc: Global,
+    root: &'t Tree,
+    path: &[&str],
+) -> Result<&'t Tree, Fault<IsaRefusal>>
     ensures { AnswersWith (λ t. view t.now) result
         (needed (map (λ k. k.now) path.now) (view root.now)) }
 {
@@ -41,7 +47,7 @@ pub fn needed<'t>(alloc: Global, root: &'t Tree, path: &[&str]) -> Result<&'t Tr
 }
 
 /// That the tree at the end of a path is a map.
-pub fn check_map(alloc: Global, tree: &Tree, path: &[&str]) -> Result<(), IsaRefusal>
+pub fn check_map(alloc: Global, tree: &Tree, path: &[&str]) -> Result<(), Fault<IsaRefusal>>
     ensures { Answers result (is_a_map (map (λ k. k.now) path.now) (view tree.now)) }
 {
     if tree.is_map() {
@@ -52,23 +58,12 @@ pub fn check_map(alloc: Global, tree: &Tree, path: &[&str]) -> Result<(), IsaRef
 }
 
 /// The refusal of this kind at the end of a path, or want of memory.
-pub fn refusal(alloc: Global, path: &[&str], kind: IsaKind) -> IsaRefusal
-    ensures { result.kind ≢ IsaKind.NoMemory
-        → result ≡ refusal_at (map (λ k. k.now) path.now) kind }
+pub fn refusal(alloc: Global, path: &[&str], kind: IsaKind) -> Fault<IsaRefusal>
+    ensures { IfRefused result (λ r. r ≡ refusal_at (map (λ k. k.now) path.now) kind) }
 {
     match path_text(alloc, path) {
-        Ok(path) => IsaRefusal { path, kind },
-        Err(NoMemory) => no_memory(alloc),
-    }
-}
-
-/// Want of memory, as a refusal.
-pub fn no_memory(alloc: Global) -> IsaRefusal
-    ensures { result.kind ≡ IsaKind.NoMemory }
-{
-    IsaRefusal {
-        path: Text::new(alloc),
-        kind: IsaKind::NoMemory,
+        Ok(path) => Fault::Refused(IsaRefusal { path, kind }),
+        Err(NoMemory) => Fault::NoMemory,
     }
 }
 

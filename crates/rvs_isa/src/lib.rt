@@ -20,5 +20,5 @@ pub use laws::{
     unread_paths_are_those_that_no_check_reads,
 };
 pub use misa::misa_word;
-pub use print::{print_checked, refusal_text};
+pub use print::print_checked;
 pub use refusal::{IsaKind, IsaRefusal};

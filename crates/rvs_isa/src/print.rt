@@ -7,6 +7,7 @@ use crate::accepted_spec::AcceptedSpec;
 use crate::misa::misa_word;
 use crate::refusal::{IsaKind, IsaRefusal};
 use rvs_base::{NoMemory, Text, hex_text};
+use rvs_fault::Refusal;
 use rvs_insn::{IsaSpec, MemoryMap, isa_text};
 use std::alloc::Global;
 
@@ -65,19 +66,17 @@ fn core_lines(alloc: Global, spec: &IsaSpec) -> Result<Text, NoMemory>
     Ok(Text::from(lines))
 }
 
-/// A refusal as a fault line has it behind the file's name: `isa`, the number of its kind, the
-/// path, and both words where the reset value of `misa` disagrees.
-///
-/// # Errors
-///
-/// [`NoMemory`].
-pub fn refusal_text(alloc: Global, refusal: &IsaRefusal) -> Result<Text, NoMemory>
-    ensures { IfOk result (λ text. text ≡ refusal_text refusal.now) }
-{
-    let number = refusal.kind.number();
-    let path = refusal.path.as_str();
-    let words = words_text(alloc, refusal.kind)?;
-    Ok(Text::from(format!(in alloc; "isa {number} {path}{words}")?))
+impl Refusal for IsaRefusal {
+    ghost said = { refusal_text };
+
+    /// `isa`, the number of the kind, the path, and both words where the reset value of `misa`
+    /// disagrees.
+    fn text(&self, alloc: Global) -> Result<Text, NoMemory> {
+        let number = self.kind.number();
+        let path = self.path.as_str();
+        let words = words_text(alloc, self.kind)?;
+        Ok(Text::from(format!(in alloc; "isa {number} {path}{words}")?))
+    }
 }
 
 fn words_text(alloc: Global, kind: IsaKind) -> Result<Text, NoMemory>

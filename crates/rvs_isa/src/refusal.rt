@@ -34,12 +34,10 @@ pub enum IsaKind {
     BadNumber,
     /// `memory_map` isn't a map, one of its addresses is no multiple of 4,096, or both are one.
     BadMemory,
-    /// The allocator refused. The path says nothing then.
-    NoMemory,
 }
 
 impl IsaKind {
-    /// The number under which a fault line names the kind: 1 to 12, in the order above.
+    /// The number under which a fault line names the kind: 1 to 11, in the order above.
     pub fn number(self) -> u8
         ensures { result ≡ number_of self }
     {
@@ -55,7 +53,6 @@ impl IsaKind {
             IsaKind::BadTruth => 9,
             IsaKind::BadNumber => 10,
             IsaKind::BadMemory => 11,
-            IsaKind::NoMemory => 12,
         }
     }
 }

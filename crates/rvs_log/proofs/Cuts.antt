@@ -5,6 +5,7 @@ use Rattle.std.proofs.Common.{take, drop, get_or, arith, append_assoc, append-ni
 use Rattle.std.proofs.Common.{length-drop, rules}
 use Rattle.std.proofs.lemmas.Bool.Decides.{nat_tests}
 use Rattle.std.specs.Prelude.{◌==◌, nat_le}
+use Rattle.rvs_text.proofs.Lists.{take-all}
 use Rattle.rvs_log.specs.Lines.{held, held_more}
 use Rattle.rvs_log.specs.Cutting.{held_after, lines_held, lines_after}
 
@@ -135,14 +136,10 @@ lines_before w0 piece used end fits e none =
     ∙ ap (λ l. lines_after w l) (sym (append-nil more))
     ∙ lines_feedless w more [] (feedless_take (drop used piece) end none)
 
-take_all : (xs : List ℕ) → take (length xs) xs ≡ xs
-take_all [] = refl
-take_all (x ∷ xs) = ap (λ l. x ∷ l) (take_all xs)
-
 whole_free : (hay : List ℕ) → ((k : ℕ) → 0 ≤ k → k < length hay → (get_or hay k 0 == 10) ≡ true → ⊥)
     → feedless hay
 whole_free hay none = let P : List ℕ
-    → Type 0 = feedless in subst P (take_all hay) (feedless_take hay (length hay) none)
+    → Type 0 = feedless in subst P (take-all hay) (feedless_take hay (length hay) none)
 
 pieces : (used : ℕ) (piece : List ℕ) → take used piece ++ drop used piece ≡ piece
 pieces zero [] = refl

@@ -23,26 +23,10 @@ below_zero n m h = grind (arith, ints)
 pub bits_fit : (n : ℕ) → n < 2 ^ 12 → FitsBits 12 (signed 12 n)
 bits_fit n h = grind (arith, below_zero)
 
-pub branch_fits : (n : ℕ) → n < 2 ^ 13 → n % 2 ≡ 0 → FitsEven 13 (signed 13 n)
-branch_fits n h e = grind (arith, below_zero)
-
-pub jump_fits : (n : ℕ) → n < 2 ^ 21 → n % 2 ≡ 0 → FitsEven 21 (signed 21 n)
-jump_fits n h e = grind (arith, below_zero)
-
-pub form_fits : (form : Format) (word : ℕ) → word < 2 ^ 32
-    → AreOf form (rd_of form word) (rs1_of form word) (rs2_of form word) (imm_of form word)
-form_fits form word h = grind arith
-
-pub rd_fits : (form : Format) (word : ℕ) → IsRegister (rd_of form word)
-rd_fits form word = grind arith
-
 -- what is needed of an instruction
 pub record InRange (i : Fields) : Type 0 where
   pub encodable : IsEncodable i
   pub rd : IsRegister i.rd
-
-pub at_fits : (word : ℕ) (op : Op) → word < 2 ^ 32 → InRange (fields_at word op)
-at_fits word op h = grind (arith, form_fits, rd_fits)
 
 pub op_fits : (word : ℕ) (o : Option Op) (i : Fields) → word < 2 ^ 32
     → option_map (fields_at word) o ≡ Some i → InRange i

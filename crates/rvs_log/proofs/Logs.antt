@@ -3,6 +3,7 @@ use Rattle.std.proofs.Common.{◌≡◌, ℕ, suc, ◌+◌, ◌/◌, ◌%◌, �
 use Rattle.std.proofs.Common.{not, ◌&&◌, List, [], ◌∷◌, ◌++◌, Option, Some, None, refl, sym, ap}
 use Rattle.std.proofs.Common.{◌∙◌, length, arith, append_assoc, append-nil, length-append, rules}
 use Rattle.std.proofs.lemmas.Bool.Decides.{nat_tests}
+use Rattle.std.proofs.lemmas.Bool.{and_from}
 use Rattle.std.specs.Prelude.{◌==◌, nat_lt, nat_le, map, codes, All}
 use Rattle.rvs_base.specs.Lines.{without_return}
 use Rattle.rvs_base.specs.Number.{hex_digit_of, hex_digit_at, hex_word_of}
@@ -27,9 +28,6 @@ plain (b ∷ bs) = ok b && plain bs
 
 pub both : (a b : Bool) → (a && b) ≡ true → (a ≡ true) × (b ≡ true)
 both a b h = grind arith
-
-and_true : (a b : Bool) → a ≡ true → b ≡ true → (a && b) ≡ true
-and_true a b g h = grind arith
 
 pub neither : (a b : Bool) → (not a && not b) ≡ true → (a ≡ false) × (b ≡ false)
 neither a b h = grind arith
@@ -69,24 +67,24 @@ return_plain (b ∷ c ∷ l) h = simp (both, (return_plain (c ∷ l) (both (ok b
 
 -- ---- the parts of a line
 low_ok : (d : ℕ) → ok (48 + d) ≡ true
-low_ok d = grind (arith, and_true)
+low_ok d = grind (arith, and_from)
 
 high_ok : (d : ℕ) → ok (87 + d) ≡ true
-high_ok d = grind (arith, and_true)
+high_ok d = grind (arith, and_from)
 
 digit_ok : (d : ℕ) → ok (hex_digit_of d) ≡ true
 digit_ok d = grind (arith, low_ok, high_ok)
 
 digits_plain : (w : ℕ) (places : List ℕ) → plain (map (hex_digit_at w) places) ≡ true
 digits_plain w [] = refl
-digits_plain w (p ∷ ps) = simp (and_true, digit_ok, (digits_plain w ps))
+digits_plain w (p ∷ ps) = simp (and_from, digit_ok, (digits_plain w ps))
 
 word_plain : (w : ℕ) → plain (hex_word_of w) ≡ true
 unfolding hex_word_of
 word_plain w = digits_plain w (7 ∷ 6 ∷ 5 ∷ 4 ∷ 3 ∷ 2 ∷ 1 ∷ 0 ∷ [])
 
 padded_plain : (r : ℕ) → r < 32 → plain (padded r) ≡ true
-padded_plain r h = grind (arith, padded_one, and_true, low_ok, padded_two)
+padded_plain r h = grind (arith, padded_one, and_from, low_ok, padded_two)
 
 padded_length : (r : ℕ) → r < 32 → length (padded r) ≡ 2
 padded_length r h = grind (arith, padded_one, padded_two)

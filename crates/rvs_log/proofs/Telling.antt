@@ -1,6 +1,7 @@
 -- Lines that tell how far a file has been read: put one after the other, and fronts of them.
 use Rattle.std.proofs.Common.{◌≡◌, ◌≤◌, ◌<◌, ◌+◌, ◌/◌, ◌&&◌, ℕ, zero, suc, Bool, true, false}
-use Rattle.std.proofs.Common.{cond, List, [], ◌++◌, length, Option, Some, None, nat_lt, nat_le, Result, Err}
+use Rattle.std.proofs.Common.{cond, List, [], ◌++◌, length, Option, Some, None, nat_lt, nat_le}
+use Rattle.std.proofs.Common.{Result, Err}
 use Rattle.std.proofs.Common.{IfErr, refl, sym, ap, ◌∙◌, subst, arith, append-nil, rules}
 use Rattle.std.specs.Prelude.{IsTrue}
 use Rattle.std.proofs.lemmas.Bool.{ltb-true, ltb-false, leb-true, leb-false}
@@ -27,10 +28,6 @@ put-none sink = λ i. record { bytes = appended-none sink.bytes i; faults = sink
 
 pub put-both : (sink : SinkState) (a b : List ℕ) → put b (put a sink) ≡ put (a ++ b) sink
 put-both sink a b = λ i. record { bytes = appended-both sink.bytes a b i; faults = sink.faults }
-
-pub is-put : (old new : SinkState) (bytes : List ℕ) → new.bytes ≡ appended old.bytes bytes
-    → new.faults ≡ old.faults → new ≡ put bytes old
-is-put old new bytes b f = λ i. record { bytes = b i; faults = f i }
 
 pub not-less : (old new : SinkState) (bytes : List ℕ) → new ≡ put bytes old
     → old.faults ≤ new.faults

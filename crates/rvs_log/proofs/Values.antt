@@ -7,6 +7,7 @@ use Rattle.std.proofs.lemmas.Bool.Decides.{nat_tests}
 use Rattle.std.specs.Prelude.{◌==◌, nat_lt, IfSome}
 use Rattle.rvs_log.specs.Grammar.{first_write, hex_run, hex_value}
 use Rattle.rvs_log.proofs.Digits.{four_more}
+use Rattle.rvs_log.proofs.Logs.{both}
 use Rattle.rvs_log.specs.declared.places.TheConstants.{PLACES}
 
 -- what an entry is for a digit, and for no digit
@@ -18,9 +19,6 @@ is_entry place (Some d) v = (v == 16 ^ place * d) && nat_lt d 16
 abbrev fits_from : ℕ → List ℕ → Bool
 fits_from k [] = true
 fits_from k (v ∷ vs) = is_entry (k / 256) (hex_value (k % 256)) v && fits_from (k + 1) vs
-
-both : (a b : Bool) → (a && b) ≡ true → (a ≡ true) × (b ≡ true)
-both a b h = grind arith
 
 fits_at : (b : ℕ) (vs : List ℕ) (k : ℕ) → fits_from b vs ≡ true → k < length vs
     → is_entry ((b + k) / 256) (hex_value ((b + k) % 256)) (get_or vs k 0) ≡ true

@@ -8,21 +8,19 @@ use Rattle.rvs_insn.specs.declared.op.Op.{Op}
 use Rattle.rvs_insn.specs.declared.op.Op.TheVariants.{LrW, ScW}
 use Rattle.rvs_machine.specs.declared.action.Action.{Action}
 use Rattle.rvs_machine.specs.declared.action.Action.TheVariants.{Refuse, Go, Keep}
-use Rattle.rvs_machine.specs.declared.action.Action.TheVariants.{Reserve as ReserveWord}
-use Rattle.rvs_machine.specs.declared.action.Action.TheVariants.{StoreReserved as StoreIfReserved}
-use Rattle.rvs_machine.specs.declared.action.Action.TheVariants.{Replace as ReplaceWord}
+use Rattle.rvs_machine.specs.declared.action.Action.TheVariants.{ReserveWord, StoreIfReserved}
+use Rattle.rvs_machine.specs.declared.action.Action.TheVariants.{ReplaceWord}
 use Rattle.rvs_machine.specs.declared.effect.Effect.{Effect}
 use Rattle.rvs_machine.specs.declared.effect.Effect.TheVariants.{Put, JumpTo, GoIf, Load, Store}
 use Rattle.rvs_machine.specs.declared.effect.Effect.TheVariants.{Pass, CallTrap, BreakTrap}
 use Rattle.rvs_machine.specs.declared.effect.Effect.TheVariants.{Reserve, StoreReserved, Replace}
-use Rattle.rvs_machine.specs.declared.event.Event.{Event}
 use Rattle.rvs_machine.specs.declared.event.TrapKind.{TrapKind}
 use Rattle.rvs_machine.specs.declared.event.TrapKind.TheVariants.{MisalignedAccess, AccessFault}
 use Rattle.rvs_machine.specs.declared.event.TrapKind.TheVariants.{MisalignedTarget}
 use Rattle.rvs_machine.specs.Effects.{effect_of, add32, replaced}
 use Rattle.rvs_machine.specs.Laws.{OthersKeepReservations, UnreservedStoresNothing}
 use Rattle.rvs_machine.specs.Machine.{Setup, State, read_reg, imm_word, action_of, done_of}
-use Rattle.rvs_machine.specs.Machine.{jump_action, store_action, loaded, is_misaligned, is_in_data}
+use Rattle.rvs_machine.specs.Machine.{jump_action, loaded, is_misaligned, is_in_data}
 use Rattle.rvs_machine.specs.Machine.{load_bytes, data_word, with_data, is_reserved, wrote}
 use Rattle.rvs_machine.specs.Machine.{store_bytes}
 

@@ -1,5 +1,5 @@
 -- The image file: what its bytes say, line by line, or the first line that is faulty.
-use Rattle.std.specs.Prelude.{◌≡◌, ◌⊎◌, ℕ, zero, suc, ◌/◌, ◌==◌, nat_le, nat_eq, if◌then◌else◌}
+use Rattle.std.specs.Prelude.{ℕ, zero, suc, ◌/◌, ◌==◌, nat_le, nat_eq, if◌then◌else◌}
 use Rattle.std.specs.Prelude.{Option}
 use Rattle.std.specs.Prelude.{Some, None, Result, Ok, Err, List, [], ◌++◌, length, drop, codes}
 use Rattle.std.specs.Prelude.{option_and_then}
@@ -10,7 +10,6 @@ use Rattle.rvs_text.specs.Outcomes.{◌>>=◌}
 use Rattle.rvs_base.specs.Digits.{digits_of, short_number}
 use Rattle.rvs_machine.specs.declared.reading.ImageKind.{ImageKind}
 use Rattle.rvs_machine.specs.declared.reading.ImageKind.TheVariants.{BadLine, BadRegion, TooLarge}
-use Rattle.rvs_machine.specs.declared.reading.ImageKind.TheVariants.{NoMemory}
 use Rattle.rvs_machine.specs.declared.reading.ImageRefusal.{ImageRefusal}
 use Rattle.rvs_machine.specs.declared.reading.Addresses.{Addresses}
 use Rattle.rvs_insn.specs.Memory.{Memory, text_limit, data_limit}
@@ -35,9 +34,6 @@ after_name name line = if starts_with nat_eq line name then Some (drop (length n
 
 abbrev pub refusal : ℕ → ImageKind → ImageRefusal
 refusal line kind = record { line = line; kind = kind }
-
-abbrev pub no_memory : ImageRefusal
-no_memory = refusal 0 NoMemory
 
 -- the first line
 abbrev pub header_with : ℕ → Option (List ℕ × Rest) → Result Rest ImageRefusal
@@ -134,8 +130,3 @@ image_of_bytes memory bytes = do
   d ← section (codes "data ") (most_data memory) t.1
   a ← address_lines d.1
   whole memory t.0 d.0 a.0 a.1
-
--- the answer of a reading: what is said, or want of memory
-abbrev pub IsSaid : {A : Type 0} → Result A ImageRefusal → Result A ImageRefusal → Type 0
-IsSaid (Ok a) said = said ≡ Ok a
-IsSaid (Err e) said = (e ≡ no_memory) ⊎ (said ≡ Err e)

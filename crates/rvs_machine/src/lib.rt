@@ -11,6 +11,7 @@ mod lines;
 mod machine;
 mod memory;
 mod next_step;
+mod printing;
 mod reading;
 mod run;
 mod symbol;

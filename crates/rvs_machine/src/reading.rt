@@ -1,15 +1,17 @@
 // The image file.
-ghost use Rattle.std.specs.Prelude.{◌≡◌, ◌⊎◌, MatchOption, MatchResult, option_and_then};
-ghost use Rattle.rvs_machine.specs.ImageText.{word_in, count_in, after_name, no_memory, refusal};
+ghost use Rattle.std.specs.Prelude.{◌≡◌, MatchOption, MatchResult, option_and_then};
+ghost use Rattle.rvs_fault.specs.Answers.{Answers, AnswersWith};
+ghost use Rattle.rvs_machine.specs.ImageText.{word_in, count_in, after_name, refusal};
 ghost use Rattle.rvs_machine.specs.ImageText.{header, word_line, count_line, word_lines, section};
-ghost use Rattle.rvs_machine.specs.ImageText.{address_lines, image_of_bytes, whole, IsSaid};
+ghost use Rattle.rvs_machine.specs.ImageText.{address_lines, image_of_bytes, whole};
 ghost use Rattle.rvs_machine.specs.ImageNumbers.{image_number};
 
 use crate::image::Image;
 use crate::lines::Lines;
 use rvs_base::{Bytes, Items, short_number};
+use rvs_fault::Fault;
 use rvs_insn::MemoryMap;
-use std::alloc::{AllocError, Global};
+use std::alloc::Global;
 
 /// Why a file is no image.
 #[derive(Clone, Copy)]
@@ -21,12 +23,10 @@ pub enum ImageKind {
     /// A count is above the words that its region has, which are at most 4,194,304 of text and
     /// 262,144 of data.
     TooLarge,
-    /// The image couldn't be kept.
-    NoMemory,
 }
 
 impl ImageKind {
-    /// The number that stands for the kind in fault lines, from 1 to 4 in the order above.
+    /// The number that stands for the kind in fault lines, from 1 to 3 in the order above.
     pub fn number(self) -> u8
         ensures { result ≡ image_number self }
     {
@@ -34,7 +34,6 @@ impl ImageKind {
             ImageKind::BadLine => 1,
             ImageKind::BadRegion => 2,
             ImageKind::TooLarge => 3,
-            ImageKind::NoMemory => 4,
         }
     }
 }
@@ -46,17 +45,13 @@ pub struct ImageRefusal {
     pub kind: ImageKind,
 }
 
-impl From<AllocError> for ImageRefusal {
-    ghost use Rattle.std.specs.Prelude.{◌≡◌};
-    ghost use Rattle.rvs_machine.specs.ImageText.{no_memory};
+impl From<ImageRefusal> for Fault<ImageRefusal> {
+    ghost use Rattle.rvs_fault.specs.declared.faults.Fault.TheVariants.{Refused};
 
-    ghost from_gives = { λ _ e. e ≡ no_memory };
+    ghost from_gives = { λ refusal fault. fault ≡ Refused refusal };
 
-    fn from(_: AllocError) -> Self {
-        ImageRefusal {
-            line: 0,
-            kind: ImageKind::NoMemory,
-        }
+    fn from(refusal: ImageRefusal) -> Self {
+        Fault::Refused(refusal)
     }
 }
 
@@ -67,10 +62,14 @@ impl From<AllocError> for ImageRefusal {
 /// # Errors
 ///
 /// The first faulty line with its kind, a missing line being the one after the last; `BadRegion`
-/// with line 0 where no line is faulty and the regions are out of order; `NoMemory` with line 0.
+/// with line 0 where no line is faulty and the regions are out of order; or want of memory.
 #[tactic(auto, unfolding(crate::specs::ImageText::image_of_bytes))]
-pub fn read_image(alloc: Global, memory: MemoryMap, bytes: &[u8]) -> Result<Image, ImageRefusal>
-    ensures { IsSaid result (image_of_bytes memory bytes.now) }
+pub fn read_image(
+    alloc: Global,
+    memory: MemoryMap,
+    bytes: &[u8],
+) -> Result<Image, Fault<ImageRefusal>>
+    ensures { Answers result (image_of_bytes memory bytes.now) }
 {
     let mut lines = Lines::new(bytes);
     header(&mut lines)?;
@@ -87,7 +86,7 @@ pub fn read_image(alloc: Global, memory: MemoryMap, bytes: &[u8]) -> Result<Imag
         u64::from(memory.data_limit()) / 4,
     )?;
     let at = address_lines(&mut lines)?;
-    whole(alloc, memory, &mut lines, text, data_bytes, at)
+    Ok(whole(alloc, memory, &mut lines, text, data_bytes, at)?)
 }
 
 /// Where a run halts, and where the signature begins and ends.
@@ -107,7 +106,9 @@ fn whole(
     data_bytes: Vec<u8>,
     at: Addresses,
 ) -> Result<Image, ImageRefusal>
-    ensures { IsSaid result (whole memory text.items data_bytes.items at lines.old) }
+    ensures { MatchResult result
+        (λ image. whole memory text.items data_bytes.items at lines.old ≡ Ok image)
+        (λ e. whole memory text.items data_bytes.items at lines.old ≡ Err e) }
 {
     let number = lines.number();
     if lines.take().is_some() {
@@ -162,10 +163,9 @@ fn section(
     lines: &mut Lines<'_>,
     name: &[u8],
     limit: u64,
-) -> Result<Vec<u8>, ImageRefusal>
-    ensures { MatchResult result
-        (λ bytes. section name.now limit lines.old ≡ Ok (bytes.items, lines.new))
-        (λ e. (e ≡ no_memory) ⊎ (section name.now limit lines.old ≡ Err e)) }
+) -> Result<Vec<u8>, Fault<ImageRefusal>>
+    ensures { AnswersWith (λ bytes. (bytes.items, lines.new)) result
+        (section name.now limit lines.old) }
 {
     let count = count_line(lines, name, limit)?;
     word_lines(alloc, lines, count)
@@ -173,9 +173,12 @@ fn section(
 
 /// So many lines of one word each, as bytes, the lowest of a word first.
 #[tactic(auto, using(crate::proofs::WordLines::words_go, crate::proofs::WordLines::words_stop))]
-fn word_lines(alloc: Global, lines: &mut Lines<'_>, count: u64) -> Result<Vec<u8>, ImageRefusal>
-    ensures { MatchResult result (λ bytes. word_lines count lines.old ≡ Ok (bytes.items, lines.new))
-        (λ e. (e ≡ no_memory) ⊎ (word_lines count lines.old ≡ Err e)) }
+fn word_lines(
+    alloc: Global,
+    lines: &mut Lines<'_>,
+    count: u64,
+) -> Result<Vec<u8>, Fault<ImageRefusal>>
+    ensures { AnswersWith (λ bytes. (bytes.items, lines.new)) result (word_lines count lines.old) }
 {
     let mut bytes = Vec::new(alloc);
     for _ in 0..count {

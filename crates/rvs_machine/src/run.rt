@@ -35,11 +35,11 @@ impl Machine {
         // An arm each, so that what follows is compiled for each kind of step by itself.
         match self.next_step() {
             NextStep::Stop(kind) => self.advance_by(NextStep::Stop(kind), trace),
-            NextStep::Write(executed, next) => {
-                self.advance_by(NextStep::Write(executed, next), trace)
+            NextStep::WriteRegister(executed, next) => {
+                self.advance_by(NextStep::WriteRegister(executed, next), trace)
             },
-            NextStep::Store(executed, size, addr, value) => {
-                self.advance_by(NextStep::Store(executed, size, addr, value), trace)
+            NextStep::StoreData(executed, size, addr, value) => {
+                self.advance_by(NextStep::StoreData(executed, size, addr, value), trace)
             },
             NextStep::Atomic(executed, addr, stored, reserved) => {
                 self.advance_by(NextStep::Atomic(executed, addr, stored, reserved), trace)

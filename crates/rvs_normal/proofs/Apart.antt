@@ -1,22 +1,24 @@
 -- Keys and names that differ.
 use Rattle.std.proofs.Common.{◌≡◌, ℕ, true, false, List, [], ◌∷◌, ◌++◌, refl, sym}
 use Rattle.std.proofs.Common.{subst, arith, rules}
+use Rattle.std.proofs.lemmas.Bool.{or_parts}
 use Rattle.std.specs.Prelude.{not, map, bytes_eq}
 use Rattle.std.specs.List.{list_any}
 use Rattle.std.proofs.lemmas.List.Folds.{list_any-append}
 use Rattle.std.proofs.lemmas.Slice.Eq.{bytes_eq-Decides}
+use Rattle.rvs_yaml.proofs.WholeLines.{both_true}
 use Rattle.rvs_tree.specs.Value.{has_key}
 use Rattle.rvs_cgf.specs.Groups.{Point, Label, same_kind, is_point, has, role_of}
-use Rattle.rvs_cgf.specs.declared.group.Kind.{Kind}
-use Rattle.rvs_cgf.specs.declared.group.Kind.TheVariants as kind
+use Rattle.rvs_points.specs.declared.group.Kind.{Kind}
+use Rattle.rvs_points.specs.declared.group.Kind.TheVariants as kind
 use Rattle.rvs_cgf.specs.declared.groups.Role.{Role}
 use Rattle.rvs_cgf.specs.declared.groups.Role.TheVariants as role
-use Rattle.rvs_cgf.specs.Print.{kind_name}
+use Rattle.rvs_points.specs.Kinds.{kind_name}
 use Rattle.rvs_cgf.specs.Spelled.{Block, joined, blocks, kinds_are_apart}
-use Rattle.rvs_cgf.specs.Valid.{are_distinct}
-use Rattle.rvs_cgf.proofs.SameKinds.{same-self, kind-is}
+use Rattle.rvs_points.specs.Valid.{are_distinct}
+use Rattle.rvs_points.proofs.SameKinds.{same-self, kind-is}
 use Rattle.rvs_normal.specs.Again.{names_are_apart}
-use Rattle.rvs_normal.proofs.Truths.{both, and-false, or-both, or-last, not-true}
+use Rattle.rvs_normal.proofs.Truths.{and-false, or-last, not-true}
 use Rattle.rvs_normal.proofs.Placed.{keys}
 use Rattle.rvs_normal.proofs.Blocks.{AreFree}
 
@@ -63,9 +65,6 @@ own-name k = grind arith
 name-apart : (j k : Kind) → same_kind k j ≡ false → bytes_eq (kind_name j) (kind_name k) ≡ false
 name-apart j k h = grind (arith, bytes_eq-Decides, own-name, same-self)
 
-kind-through : (a b c : Kind) → same_kind a b ≡ true → same_kind b c ≡ true → same_kind a c ≡ true
-kind-through a b c h k = subst (λ d. same_kind d c ≡ true) (sym (kind-is a b h)) k
-
 -- ---- keys that differ
 pub eq-back : (a b : List ℕ) → bytes_eq a b ≡ false → bytes_eq b a ≡ false
 eq-back a b h = grind (arith, bytes_eq-Decides)
@@ -75,10 +74,6 @@ abbrev pub NotHas : Kind → List ℕ → List Block → Type 0
 NotHas k key [] = Unit {0}
 NotHas k key (b ∷ bs) = (same_kind b.kind k ≡ true → Differs key (keys b.points)) × NotHas k key bs
 
-other-key : (k : Kind) (key : List ℕ) (q : Point) → is_point k key q ≡ false
-    → same_kind q.kind k ≡ true → bytes_eq key q.key ≡ false
-other-key k key q h s = eq-back q.key key (and-false (same_kind q.kind k) (bytes_eq q.key key) h s)
-
 joined-not-has : (k : Kind) (key : List ℕ) (q : Point) (bs : List Block) → is_point k key q ≡ false
     → NotHas k key bs → NotHas k key (joined q bs)
 joined-not-has k key q bs h n = search rules
@@ -86,7 +81,7 @@ joined-not-has k key q bs h n = search rules
 not-has : (k : Kind) (key : List ℕ) (ps : List Point) → has k key ps ≡ false
     → NotHas k key (blocks ps)
 not-has k key [] h = tt
-not-has k key (q ∷ qs) h = let p = or-both (is_point k key q) (has k key qs) h in
+not-has k key (q ∷ qs) h = let p = or_parts (is_point k key q) (has k key qs) h in
     joined-not-has k key q (blocks qs) p.0 (not-has k key qs p.1)
 
 abbrev pub AllDistinct : List Block → Type 0
@@ -100,7 +95,7 @@ joined-distinct p bs n d = grind arith
 pub distinct-blocks : (ps : List Point) → are_distinct ps ≡ true → AllDistinct (blocks ps)
 distinct-blocks [] h = tt
 distinct-blocks (p ∷ ps) h =
-    let q = both (not (has p.kind p.key ps)) (are_distinct ps) h in
+    let q = both_true (not (has p.kind p.key ps)) (are_distinct ps) h in
     joined-distinct p (blocks ps) (not-has p.kind p.key ps (not-true (has p.kind p.key ps) q.0))
     (distinct-blocks ps q.1)
 
@@ -109,14 +104,14 @@ other-names : (b : Block) (bs : List Block) → list_any (λ c. same_kind c.kind
     → Differs (kind_name b.kind) (map (λ c. kind_name c.kind) bs)
 other-names b [] h = tt
 other-names b (c ∷ bs) h =
-    let p = or-both (same_kind c.kind b.kind) (list_any (λ d. same_kind d.kind b.kind) bs) h in
+    let p = or_parts (same_kind c.kind b.kind) (list_any (λ d. same_kind d.kind b.kind) bs) h in
     (name-apart b.kind c.kind p.0, other-names b bs p.1)
 
 pub node-names : (bs : List Block) → kinds_are_apart bs ≡ true
     → Distinct (map (λ b. kind_name b.kind) bs)
 node-names [] h = tt
 node-names (b ∷ bs) h =
-    let p = both (not (list_any (λ c. same_kind c.kind b.kind) bs)) (kinds_are_apart bs) h in (
+    let p = both_true (not (list_any (λ c. same_kind c.kind b.kind) bs)) (kinds_are_apart bs) h in (
       other-names b bs (not-true (list_any (λ c. same_kind c.kind b.kind) bs) p.0),
       node-names bs p.1,
     )
@@ -126,13 +121,13 @@ other-labels : (l : Label) (ls : List Label) → list_any (λ m. bytes_eq l.name
     → Differs l.name (map (λ m. m.name) ls)
 other-labels l [] h = tt
 other-labels l (m ∷ ls) h =
-    let p = or-both (bytes_eq l.name m.name) (list_any (λ n. bytes_eq l.name n.name) ls) h in
+    let p = or_parts (bytes_eq l.name m.name) (list_any (λ n. bytes_eq l.name n.name) ls) h in
     (p.0, other-labels l ls p.1)
 
 pub label-names : (ls : List Label) → names_are_apart ls ≡ true → Distinct (map (λ l. l.name) ls)
 label-names [] h = tt
 label-names (l ∷ ls) h =
-    let p = both (not (list_any (λ m. bytes_eq l.name m.name) ls)) (names_are_apart ls) h in (
+    let p = both_true (not (list_any (λ m. bytes_eq l.name m.name) ls)) (names_are_apart ls) h in (
       other-labels l ls (not-true (list_any (λ m. bytes_eq l.name m.name) ls) p.0),
       label-names ls p.1,
     )

@@ -1,10 +1,13 @@
 -- Each map of an accepted text has each of its keys once.
 use Rattle.std.proofs.Common.{◌≡◌, ℕ, Bool, true, false, List, [], ◌∷◌, ◌++◌, refl, sym, ap, subst}
 use Rattle.std.proofs.Common.{◌∙◌, append_assoc, append-nil, arith, rules}
+use Rattle.std.proofs.lemmas.Bool.{and_from, or_parts, not_from_false}
 use Rattle.std.specs.Prelude.{◌||◌, not, bytes_eq}
 use Rattle.std.specs.List.{list_any}
 use mathlib.Core.Bool.{cond}
 use Rattle.std.proofs.lemmas.List.Folds.{list_any-append}
+use Rattle.rvs_tree.proofs.Views.{pairs_of-entries_of}
+use Rattle.rvs_yaml.proofs.WholeLines.{both_true}
 use Rattle.rvs_tree.specs.Data.{Data, Items, no_items, item, items_of}
 use Rattle.rvs_tree.specs.Data.{list_of, Entries, no_entries, entry, entries_of, pairs_of, Pairs}
 use Rattle.rvs_tree.specs.Data.{own_pairs}
@@ -14,8 +17,7 @@ use Rattle.rvs_yaml_text.specs.Word.{Key}
 use Rattle.rvs_yaml.specs.Entry.{written}
 use Rattle.rvs_cgf.specs.Spelled.{keys_are_own}
 use Rattle.rvs_normal.specs.Once.{KeysOnce, ItemsOnce, EntriesOnce}
-use Rattle.rvs_normal.proofs.Truths.{both, and-true, or-both, or-last, or-true, not-true, not-false}
-use Rattle.rvs_normal.proofs.Sizes.{pairs-back}
+use Rattle.rvs_normal.proofs.Truths.{or-last, or-true, not-true}
 use Rattle.rvs_normal.proofs.Apart.{eq-back}
 
 -- ---- lists of pairs
@@ -68,11 +70,11 @@ own-pushed : (ps : Pairs) (p : List ℕ × Data) → keys_are_own ps ≡ true
     → has_key p.0 (keys_of ps) ≡ false → keys_are_own (ps ++ (p ∷ [])) ≡ true
 own-pushed [] p h k = refl
 own-pushed (q ∷ qs) p h k =
-    let a = both (not (list_any (λ f. bytes_eq f.0 q.0) qs)) (keys_are_own qs) h in
-    let b = or-both (bytes_eq q.0 p.0) (has_key p.0 (keys_of qs)) k in
-    and-true (not (list_any (λ f. bytes_eq f.0 q.0) (qs ++ (p ∷ []))))
+    let a = both_true (not (list_any (λ f. bytes_eq f.0 q.0) qs)) (keys_are_own qs) h in
+    let b = or_parts (bytes_eq q.0 p.0) (has_key p.0 (keys_of qs)) k in
+    and_from (not (list_any (λ f. bytes_eq f.0 q.0) (qs ++ (p ∷ []))))
     (keys_are_own (qs ++ (p ∷ [])))
-    (not-false (list_any (λ f. bytes_eq f.0 q.0) (qs ++ (p ∷ []))) (any-pushed q.0 qs p
+    (not_from_false (list_any (λ f. bytes_eq f.0 q.0) (qs ++ (p ∷ []))) (any-pushed q.0 qs p
     (not-true (list_any (λ f. bytes_eq f.0 q.0) qs) a.0) (eq-back q.0 p.0 b.0)))
     (own-pushed qs p a.1 b.1)
 
@@ -85,7 +87,7 @@ none-pushed : (ks : List (List ℕ)) (ps : Pairs) (p : List ℕ × Data) → Non
     → has_key p.0 ks ≡ false → NoneIn ks (ps ++ (p ∷ []))
 none-pushed [] ps p n h = tt
 none-pushed (k ∷ ks) ps p n h =
-    let q = or-both (bytes_eq k p.0) (has_key p.0 ks) h in
+    let q = or_parts (bytes_eq k p.0) (has_key p.0 ks) h in
     (has-pushed k ps p n.0 (eq-back k p.0 q.0), none-pushed ks ps p n.1 q.1)
 
 -- adding keeps keys apart, and adds no explicit key
@@ -97,7 +99,7 @@ added-good explicit ks so_far [] sub g n o = (g, n)
 added-good explicit ks so_far (q ∷ qs) sub g n o =
     by-case (has_key q.0 explicit || has_key q.0 (keys_of so_far)) refl
     (added-good explicit ks so_far qs sub g n o.1)
-    (λ h. let f = or-both (has_key q.0 explicit) (has_key q.0 (keys_of so_far)) h in
+    (λ h. let f = or_parts (has_key q.0 explicit) (has_key q.0 (keys_of so_far)) h in
     added-good explicit ks (so_far ++ (q ∷ [])) qs sub (record {
       own = own-pushed so_far q g.own f.1;
       owned = pairs-append so_far (q ∷ []) g.owned (o.0, tt);
@@ -134,7 +136,7 @@ resolved-good explicit so_far (w ∷ ws) sub a g n o =
     sub' g n' (merged-owned w.value.tree o.0) in resolved-good explicit
     (added explicit so_far (merged_pairs w.value.tree)) ws sub' a' m.0 m.1 o.1)
     (λ sub' a' n'. resolved-good explicit (so_far ++ ((w.key, w.value.tree) ∷ [])) ws
-    (λ k h. (or-both (bytes_eq w.key k) (has_key k (explicit_keys ws)) (sub' k h)).1) a'.1
+    (λ k h. (or_parts (bytes_eq w.key k) (has_key k (explicit_keys ws)) (sub' k h)).1) a'.1
     (record {
       own = own-pushed so_far (w.key, w.value.tree) g.own n'.0;
       owned = pairs-append so_far ((w.key, w.value.tree) ∷ []) g.owned (o.0, tt);
@@ -176,7 +178,7 @@ pub map-owned : (line : ℕ) (ws : List Written) → Apart (explicit_keys ws) �
 map-owned line ws a o =
     let g = resolved-good (explicit_keys ws) [] ws (λ k h. h) a (record { own = refl; owned = tt })
     (none-in-nothing (explicit_keys ws)) o in (
-      ap keys_are_own (pairs-back (resolved (explicit_keys ws) [] ws)) ∙ g.own,
+      ap keys_are_own (pairs_of-entries_of (resolved (explicit_keys ws) [] ws)) ∙ g.own,
       to-entries (resolved (explicit_keys ws) [] ws) g.owned,
     )
 
@@ -210,7 +212,7 @@ pub apart-pushed : (ks : List (List ℕ)) (k : List ℕ) → Apart ks → has_ke
     → Apart (ks ++ (k ∷ []))
 apart-pushed [] k a h = (refl, tt)
 apart-pushed (j ∷ ks) k a h =
-    let p = or-both (bytes_eq j k) (has_key k ks) h in
+    let p = or_parts (bytes_eq j k) (has_key k ks) h in
     (has-behind j ks k a.0 (eq-back j k p.0), apart-pushed ks k a.1 p.1)
 
 explicit-append : (ws : List Written) (w : Written)

@@ -2,13 +2,15 @@
 -- entries.
 use Rattle.std.proofs.Common.{◌≡◌, ℕ, ◌+◌, Bool, true, false, List, [], ◌∷◌, ◌++◌, length, refl, ap}
 use Rattle.std.proofs.Common.{subst, ◌∙◌, Ok, Err, arith, rules}
+use Rattle.std.proofs.lemmas.Bool.{and_from, or_parts, or_from, not_from_false}
 use Rattle.std.specs.Prelude.{not, nat_le, nat_lt, if◌then◌else◌, bytes_eq, codes}
 use Rattle.std.specs.List.{list_any, list_all}
 use Rattle.std.proofs.lemmas.List.Folds.{list_any-append, list_all-append}
+use Rattle.rvs_yaml.proofs.WholeLines.{both_true}
 use Rattle.rvs_insn.specs.Isa.{Isa}
 use Rattle.rvs_tree.specs.Data.{Data, Pairs, own_pairs}
 use Rattle.rvs_abstract.specs.declared.families.Families.{Families}
-use Rattle.rvs_cgf.specs.Keys.{is_printable, is_label_name}
+use Rattle.rvs_points.specs.Keys.{is_printable, is_label_name}
 use Rattle.rvs_cgf.specs.Groups.{Point, Label, EntryNames, at_label, at_node, at_key, Found, ◌>>=◌}
 use Rattle.rvs_cgf.specs.Groups.{◌>>◌, holds, Taken, Nodes, Listed, entries, all_entries}
 use Rattle.rvs_cgf.specs.Groups.{passed_over, role_of, by_role, node_step, starting, for_each}
@@ -16,15 +18,14 @@ use Rattle.rvs_cgf.specs.Groups.{main_of, first_points, selected_label, chosen, 
 use Rattle.rvs_cgf.specs.Groups.{with_label, label_step, nothing_listed, groups_of}
 use Rattle.rvs_cgf.specs.Groups.{size_of}
 use Rattle.rvs_cgf.specs.Spelled.{keys_are_own}
-use Rattle.rvs_cgf.specs.declared.refusal.CgfKind.TheVariants as fault
+use Rattle.rvs_points.specs.declared.refusal.CgfKind.TheVariants as fault
 use Rattle.rvs_cgf.specs.declared.groups.Role.{Role}
 use Rattle.rvs_cgf.specs.declared.groups.Role.TheVariants as role
 use Rattle.rvs_cgf.proofs.Adding.{entries-are, is_note, Kept, IsOf, entry-kept, entries-kept}
 use Rattle.rvs_cgf.proofs.Adding.{passed-kept}
 use Rattle.rvs_cgf.proofs.Roles.{Suits, role-suits}
 use Rattle.rvs_normal.specs.Again.{names_are_apart, notes_are_printable}
-use Rattle.rvs_normal.proofs.Truths.{both, and-true, or-both, or-false, or-last, not-true}
-use Rattle.rvs_normal.proofs.Truths.{not-false}
+use Rattle.rvs_normal.proofs.Truths.{or-last, not-true}
 use Rattle.rvs_normal.proofs.Apart.{eq-back}
 use Rattle.rvs_normal.proofs.Spelling.{name-plain}
 use Rattle.rvs_normal.proofs.Rows.{plain-inked}
@@ -58,7 +59,7 @@ abbrev pub Noted : Taken → Type 0
 Noted t = list_all is_note t.skipped ≡ true
 
 noted-kept : (Q : Point → Type 0) → Kept Noted Q
-noted-kept Q = grind (arith, list_all-append, is_note, and-true)
+noted-kept Q = grind (arith, list_all-append, is_note, and_from)
 
 -- ---- nodes
 abbrev NodesNoted : Nodes → Type 0
@@ -112,14 +113,14 @@ label-named isa families name d h =
     (nodes-noted isa families name (own_pairs d) (starting first) refl)
     (λ n k. (
       refl,
-      and-true (is_printable name) (list_all is_note n.taken.skipped)
+      and_from (is_printable name) (list_all is_note n.taken.skipped)
           (name-printable name h) k,
     ))))
 
 chosen-named : (isa : Isa) (families : Families) (name : List ℕ) (d : Data) (b : Bool)
     → is_label_name name ≡ true
     → Has (IsNamed name) (chosen isa families name d b)
-chosen-named isa families name d b h = search (rules, label-named, and-true, name-printable)
+chosen-named isa families name d b h = search (rules, label-named, and_from, name-printable)
 
 of-named : (isa : Isa) (families : Families) (name : List ℕ) (d : Data)
     → Has (IsNamed name) (label_of isa families name d)
@@ -141,7 +142,7 @@ record Well (es : Pairs) (l : Listed) : Type 0 where
 
 later-less : (ls : List Label) (e : List ℕ × Data) (es : Pairs) → Later ls (e ∷ es) → Later ls es
 later-less [] e es h = tt
-later-less (l ∷ ls) e es h = grind (arith, or-both, (later-less ls e es h.1))
+later-less (l ∷ ls) e es h = grind (arith, or_parts, (later-less ls e es h.1))
 
 later-push : (ls : List Label) (l : Label) (es : Pairs) → Later ls es
     → list_any (λ e. bytes_eq l.name e.0) es ≡ false → Later (ls ++ (l ∷ [])) es
@@ -157,11 +158,11 @@ apart-push : (ls : List Label) (l : Label) (e : List ℕ × Data) (es : Pairs) �
     → names_are_apart ls ≡ true → Later ls (e ∷ es) → names_are_apart (ls ++ (l ∷ [])) ≡ true
 apart-push [] l e es is h k = refl
 apart-push (m ∷ ls) l e es is h k =
-    let p = both (not (list_any (λ n. bytes_eq m.name n.name) ls)) (names_are_apart ls) h in
-    let q = or-both (bytes_eq m.name e.0) (list_any (λ f. bytes_eq m.name f.0) es) k.0 in
-    and-true (not (list_any (λ n. bytes_eq m.name n.name) (ls ++ (l ∷ []))))
+    let p = both_true (not (list_any (λ n. bytes_eq m.name n.name) ls)) (names_are_apart ls) h in
+    let q = or_parts (bytes_eq m.name e.0) (list_any (λ f. bytes_eq m.name f.0) es) k.0 in
+    and_from (not (list_any (λ n. bytes_eq m.name n.name) (ls ++ (l ∷ []))))
     (names_are_apart (ls ++ (l ∷ [])))
-    (not-false (list_any (λ n. bytes_eq m.name n.name) (ls ++ (l ∷ [])))
+    (not_from_false (list_any (λ n. bytes_eq m.name n.name) (ls ++ (l ∷ [])))
     (list_any-append (λ (n : Label). bytes_eq m.name n.name) ls (l ∷ []) ∙ or-last
     (list_any (λ n. bytes_eq m.name n.name) ls) (bytes_eq m.name l.name)
     (not-true (list_any (λ n. bytes_eq m.name n.name) ls) p.0) (ap (bytes_eq m.name) is ∙ q.0)))
@@ -171,8 +172,8 @@ any-turned : (k : List ℕ) (es : Pairs) → list_any (λ f. bytes_eq f.0 k) es 
     → list_any (λ f. bytes_eq k f.0) es ≡ false
 any-turned k [] h = refl
 any-turned k (e ∷ es) h =
-    let p = or-both (bytes_eq e.0 k) (list_any (λ f. bytes_eq f.0 k) es) h in
-    or-false (bytes_eq k e.0) (list_any (λ f. bytes_eq k f.0) es) (eq-back e.0 k p.0)
+    let p = or_parts (bytes_eq e.0 k) (list_any (λ f. bytes_eq f.0 k) es) h in
+    or_from (bytes_eq k e.0) (list_any (λ f. bytes_eq k f.0) es) (eq-back e.0 k p.0)
     (any-turned k es p.1)
 
 step-well : (isa : Isa) (families : Families) (e : List ℕ × Data) (es : Pairs) (l : Listed)
@@ -206,7 +207,7 @@ each-well : (isa : Isa) (families : Families) (es : Pairs) (l : Listed) → keys
     → Has (Well []) (for_each (label_step isa families) es l)
 each-well isa families [] l own w = w
 each-well isa families (e ∷ es) l own w =
-    let p = both (not (list_any (λ f. bytes_eq f.0 e.0) es)) (keys_are_own es) own in
+    let p = both_true (not (list_any (λ f. bytes_eq f.0 e.0) es)) (keys_are_own es) own in
     has-then (Well es) (Well []) (label_step isa families e.0 e.1 l) _
     (step-well isa families e es l (not-true (list_any (λ f. bytes_eq f.0 e.0) es) p.0) w)
     (λ m v. each-well isa families es m p.1 v)

@@ -1,6 +1,7 @@
 -- The values of words have each key of a map once.
 use Rattle.std.proofs.Common.{◌≡◌, ℕ, Bool, true, false, List, [], ◌∷◌, ◌++◌, refl, sym, ap, subst}
 use Rattle.std.proofs.Common.{append-nil, Option, Ok, Err, arith, rules}
+use Rattle.std.proofs.lemmas.Bool.{or_parts, or_from}
 use Rattle.std.specs.Prelude.{◌&&◌, ◌||◌, not}
 use mathlib.Core.Bool.{cond}
 use Rattle.rvs_tree.specs.Value.{Value, scalar_value, list_value, map_value, Written, has_key}
@@ -25,7 +26,7 @@ use Rattle.rvs_yaml.specs.Block.{value_over, value_of, item_at, only_leaf, key_a
 use Rattle.rvs_yaml.specs.Block.{check_merge, block, items, entries, tree_of, outline}
 use Rattle.rvs_normal.specs.Once.{KeysOnce}
 use Rattle.std.proofs.lemmas.List.Folds.{list_any-append}
-use Rattle.rvs_normal.proofs.Truths.{or-both, or-false, or-true}
+use Rattle.rvs_normal.proofs.Truths.{or-true}
 use Rattle.rvs_normal.proofs.Apart.{eq-back}
 use Rattle.rvs_normal.proofs.KeysOnce.{WrittenOwned, Apart, ValuesOwned, values-append}
 use Rattle.rvs_normal.proofs.KeysOnce.{written-append, map-owned, list-owned, IsNew, apart-written}
@@ -74,10 +75,6 @@ has-then h e = grind arith
 has-behind : {A B : Type 0} (Q : B → Type 0) (a : Checked A) (b : Checked B) → Has Q b
     → Has Q (a >> b)
 has-behind h = grind arith
-
-has-check : {B : Type 0} (Q : B → Type 0) (t : Bool) (kind : YamlKind) (b : Checked B)
-    → (t ≡ true → Has Q b) → Has Q (check t kind >> b)
-has-check h = grind arith
 
 abbrev pub TreeOwned : Value → Type 0
 TreeOwned v = KeysOnce v.tree
@@ -210,7 +207,7 @@ none-seen-less : (seen : List (List ℕ)) (k : List ℕ) (ks : List (List ℕ))
     → NoneSeen (seen ++ (k ∷ [])) ks → NoneSeen seen ks × (has_key k ks ≡ false)
 none-seen-less seen k [] n = (tt, refl)
 none-seen-less seen k (j ∷ ks) n =
-    grind (arith, or-both, list_any-append, or-false, eq-back, (none-seen-less seen k ks n.1))
+    grind (arith, or_parts, list_any-append, or_from, eq-back, (none-seen-less seen k ks n.1))
 
 more-written : (seen : List (List ℕ)) (k : Key) (v : Value) (ws : List Written)
     → (k.merges || not (has_key k.name seen)) ≡ true

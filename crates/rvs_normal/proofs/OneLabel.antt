@@ -11,9 +11,9 @@ use Rattle.std.specs.Prelude.{codes}
 use Rattle.rvs_expr.specs.Equation.{name_of, key_of, number_of, equation_of}
 use Rattle.rvs_cgf.specs.Groups.{point, op_is, nums}
 use Rattle.rvs_cgf.specs.Print.{normal_text}
-use Rattle.rvs_cgf.specs.Valid.{IsMeant, IsValid}
+use Rattle.rvs_points.specs.Valid.{IsMeant, IsValid}
 use Rattle.rvs_cgf.specs.Spelled.{IsPlain, CanBeSpelled}
-use Rattle.rvs_cgf.specs.declared.group.Kind.TheVariants.{Mnemonic, ValComb}
+use Rattle.rvs_points.specs.declared.group.Kind.TheVariants.{Mnemonic, ValComb}
 use Rattle.rvs_cgf.proofs.FamilyKeys.{value_meant}
 use Rattle.rvs_cgf.proofs.ReadBack.{spelled_is_read}
 use Rattle.rvs_normal.specs.Example.{example, example_text, IsReadAs}

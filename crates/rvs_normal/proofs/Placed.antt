@@ -6,8 +6,9 @@ use Rattle.std.specs.Prelude.{if◌then◌else◌, map, filter, codes}
 use Rattle.rvs_yaml_text.specs.Word.{Word}
 use Rattle.rvs_yaml_text.specs.Text.{line_words}
 use Rattle.rvs_cgf.specs.Groups.{Point, Skipped, Label, same_kind}
-use Rattle.rvs_cgf.specs.declared.group.Kind.{Kind}
-use Rattle.rvs_cgf.specs.Print.{kind_name, goes_on}
+use Rattle.rvs_points.specs.declared.group.Kind.{Kind}
+use Rattle.rvs_points.specs.Kinds.{kind_name}
+use Rattle.rvs_cgf.specs.Print.{goes_on}
 use Rattle.rvs_cgf.specs.Spelled.{Block, joined, blocks, selected}
 use Rattle.rvs_normal.proofs.Lines.{inked-utf8}
 use Rattle.rvs_normal.proofs.Rows.{Row, label_row, node_row, point_row, note_row, inner_note_row}
@@ -81,14 +82,6 @@ cols_behind before (b ∷ bs) = head_cols before b.kind
 
 whole : (bs : List Block) → cols_behind None bs ≡ parts_cols 2 (map node_part bs)
 whole bs = grind arith
-
-pub same-kind-back : (j k : Kind) → same_kind j k ≡ same_kind k j
-same-kind-back j k = grind arith
-
-joined-cols : (before : Option Kind) (p : Point) (bs : List Block)
-    → head_cols before p.kind ++ (point_col 4 (codes "0") p.key ∷ cols_behind (Some p.kind) bs)
-    ≡ cols_behind before (joined p bs)
-joined-cols before p bs = grind arith
 
 points-cols : (before : Option Kind) (ps : List Point)
     → cols (points_rows before ps) ≡ cols_behind before (blocks ps)

@@ -7,8 +7,9 @@ use Rattle.rvs_yaml_text.specs.Bytes.{feed_byte}
 use Rattle.rvs_yaml_text.specs.Printed as yaml
 use Rattle.rvs_yaml_text.specs.Printed.{in_quotes}
 use Rattle.rvs_cgf.specs.Groups.{Point, Skipped, Label}
-use Rattle.rvs_cgf.specs.declared.group.Kind.{Kind}
-use Rattle.rvs_cgf.specs.Print.{kind_name, doubled, point_line, goes_on, head_line, points_text}
+use Rattle.rvs_points.specs.declared.group.Kind.{Kind}
+use Rattle.rvs_points.specs.Kinds.{kind_name}
+use Rattle.rvs_cgf.specs.Print.{doubled, point_line, goes_on, head_line, points_text}
 use Rattle.rvs_cgf.specs.Print.{skipped_line, label_text, normal_text}
 use Rattle.rvs_normal.proofs.Lines.{fed}
 use Rattle.rvs_normal.proofs.Rows.{Row, label_row, node_row, point_row, note_row, inner_note_row}

@@ -2,11 +2,13 @@
 use Rattle.std.proofs.Common.{◌≡◌, ℕ, ◌+◌, ◌*◌, ◌≤◌, ◌<◌, Bool, true, false, List, [], ◌∷◌, ◌++◌}
 use Rattle.std.proofs.Common.{length, refl, sym, ap, subst, ◌∙◌, arith, append_assoc, append-nil}
 use Rattle.std.proofs.Common.{Option, Some, Ok, All, true≢false, bytes_eq, rules}
+use Rattle.std.proofs.lemmas.Bool.{and_from, or_parts, or_from, not_from_false}
 use Rattle.std.specs.Prelude.{not, codes, sum_by}
 use Rattle.std.specs.List.{list_all, list_any}
 use Rattle.std.proofs.lemmas.List.{length-append}
 use Rattle.std.proofs.lemmas.List.Sums.{sum_by-cons}
 use Rattle.std.proofs.lemmas.List.Elements.{All-head, All-tail}
+use Rattle.rvs_yaml.proofs.WholeLines.{both_true}
 use Rattle.rvs_insn.specs.Isa.{Isa}
 use Rattle.rvs_insn.specs.Names.{is_admitted_op}
 use Rattle.rvs_tree.specs.Data.{Data, Entries, no_entries, entry, pairs_of, own_pairs}
@@ -14,19 +16,19 @@ use Rattle.rvs_tree.specs.Value.{Value}
 use Rattle.rvs_yaml.specs.Checks.{Checked, ◌>>=◌, ◌>>◌}
 use Rattle.rvs_yaml.specs.Parsed.{within_limits, front, answer_after, answer}
 use Rattle.rvs_abstract.specs.declared.families.Families.{Families}
-use Rattle.rvs_cgf.specs.Keys.{is_printable}
+use Rattle.rvs_points.specs.Keys.{is_printable}
 use Rattle.rvs_cgf.specs.Groups.{Point, Label, size_of, groups_of}
 use Rattle.rvs_cgf.specs.Print.{doubled, point_line, points_text}
 use Rattle.rvs_cgf.specs.Print.{label_text, normal_text}
-use Rattle.rvs_cgf.specs.Valid.{IsMeant}
+use Rattle.rvs_points.specs.Valid.{IsMeant}
 use Rattle.rvs_cgf.specs.Spelled.{IsPlain, ArePlain, selected, keys_are_own, nodes_are_own}
 use Rattle.rvs_cgf.specs.Spelled.{are_admitted, CanBeSpelled}
-use Rattle.rvs_cgf.specs.declared.group.Kind.{Kind}
+use Rattle.rvs_points.specs.declared.group.Kind.{Kind}
 use Rattle.rvs_cgf.proofs.Spelling.{groups-spelled}
 use Rattle.rvs_cgf.proofs.ReadBack.{spelled_is_read}
 use Rattle.rvs_normal.specs.Once.{KeysOnce, EntriesOnce}
 use Rattle.rvs_normal.specs.Again.{names_are_apart, IsReadAgain, KeepsLimit}
-use Rattle.rvs_normal.proofs.Truths.{both, and-true, or-both, or-false, not-true, not-false}
+use Rattle.rvs_normal.proofs.Truths.{not-true}
 use Rattle.rvs_normal.proofs.OnceRead.{Has, TreeOwned, tree-owned}
 use Rattle.rvs_normal.proofs.Notes.{AllNotes, read-well}
 use Rattle.rvs_normal.proofs.Spelling.{IsPrinted, ArePrinted, IsSome, AllSome, points_cost}
@@ -53,7 +55,7 @@ top-own d o = grind arith
 each-own : (es : Entries) → EntriesOnce es
     → list_all (λ e. keys_are_own (own_pairs e.1)) (pairs_of es) ≡ true
 each-own no_entries o = refl
-each-own (entry k d es) o = grind (arith, and-true, top-own, (each-own es o.1))
+each-own (entry k d es) o = grind (arith, and_from, top-own, (each-own es o.1))
 
 nodes-own : (d : Data) → KeysOnce d → nodes_are_own d ≡ true
 nodes-own d o = search (rules, each-own)
@@ -61,7 +63,7 @@ nodes-own d o = search (rules, each-own)
 -- ---- labels that are printed
 points-printable : (ps : List Point) → All IsMeant ps → list_all (λ p. is_printable p.key) ps ≡ true
 points-printable [] h = refl
-points-printable (p ∷ ps) h = and-true (is_printable p.key) (list_all (λ p. is_printable p.key) ps)
+points-printable (p ∷ ps) h = and_from (is_printable p.key) (list_all (λ p. is_printable p.key) ps)
     (All-head IsMeant p ps h).printable (points-printable ps (All-tail IsMeant p ps h))
 
 plain-printed : (isa : Isa) (l : Label) → IsPlain isa l → IsPrinted l
@@ -95,14 +97,14 @@ any-selected : (l : Label) (ls : List Label) → list_any (λ m. bytes_eq l.name
     → list_any (λ m. bytes_eq l.name m.name) (selected ls) ≡ false
 any-selected l [] h = refl
 any-selected l (m ∷ ls) h =
-    let p = or-both (bytes_eq l.name m.name) (list_any (λ n. bytes_eq l.name n.name) ls) h in
+    let p = or_parts (bytes_eq l.name m.name) (list_any (λ n. bytes_eq l.name n.name) ls) h in
     by-case m.selected refl p.0 (any-selected l ls p.1)
   where
     by-case : (b : Bool) → m.selected ≡ b → bytes_eq l.name m.name ≡ false
         → list_any (λ n. bytes_eq l.name n.name) (selected ls) ≡ false
         → list_any (λ n. bytes_eq l.name n.name) (selected (m ∷ ls)) ≡ false
     by-case true e p q = ap (list_any (λ (n : Label). bytes_eq l.name n.name))
-        (selected-first m ls e) ∙ or-false (bytes_eq l.name m.name)
+        (selected-first m ls e) ∙ or_from (bytes_eq l.name m.name)
         (list_any (λ n. bytes_eq l.name n.name) (selected ls)) p q
     by-case false e p q =
         ap (list_any (λ (n : Label). bytes_eq l.name n.name)) (selected-others m ls e) ∙ q
@@ -111,7 +113,7 @@ selected-apart : (ls : List Label) → names_are_apart ls ≡ true
     → names_are_apart (selected ls) ≡ true
 selected-apart [] h = refl
 selected-apart (l ∷ ls) h =
-    let p = both (not (list_any (λ m. bytes_eq l.name m.name) ls)) (names_are_apart ls) h in
+    let p = both_true (not (list_any (λ m. bytes_eq l.name m.name) ls)) (names_are_apart ls) h in
     by-case l.selected refl
     (any-selected l ls (not-true (list_any (λ m. bytes_eq l.name m.name) ls) p.0))
     (selected-apart ls p.1)
@@ -119,9 +121,9 @@ selected-apart (l ∷ ls) h =
     by-case : (b : Bool) → l.selected ≡ b
         → list_any (λ m. bytes_eq l.name m.name) (selected ls) ≡ false
         → names_are_apart (selected ls) ≡ true → names_are_apart (selected (l ∷ ls)) ≡ true
-    by-case true e p q = ap names_are_apart (selected-first l ls e) ∙ and-true
+    by-case true e p q = ap names_are_apart (selected-first l ls e) ∙ and_from
         (not (list_any (λ m. bytes_eq l.name m.name) (selected ls))) (names_are_apart (selected ls))
-        (not-false (list_any (λ m. bytes_eq l.name m.name) (selected ls)) p) q
+        (not_from_false (list_any (λ m. bytes_eq l.name m.name) (selected ls)) p) q
     by-case false e p q = ap names_are_apart (selected-others l ls e) ∙ q
 
 -- ---- how long the text is
@@ -180,7 +182,7 @@ points-few isa (l ∷ ls) h = omega (arith, (points-few isa ls h.1), sum_by-cons
 plain-admitted : (isa : Isa) (ls : List Label) → ArePlain isa ls
     → list_all (λ l. list_all (is_admitted_op isa) l.ops) ls ≡ true
 plain-admitted isa [] h = refl
-plain-admitted isa (l ∷ ls) h = grind (arith, and-true, (plain-admitted isa ls h.1))
+plain-admitted isa (l ∷ ls) h = grind (arith, and_from, (plain-admitted isa ls h.1))
 
 -- what is known of groups that were read from a text
 record WasRead (isa : Isa) (ls : List Label) : Type 0 where

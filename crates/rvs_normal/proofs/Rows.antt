@@ -4,6 +4,8 @@ use Rattle.std.proofs.Common.{Some, None, rules}
 use Rattle.std.specs.Prelude.{◌&&◌, ◌||◌, ◌==◌, nat_le}
 use Rattle.std.specs.List.{list_all}
 use Rattle.std.proofs.lemmas.Bool.Decides.{nat_tests}
+use Rattle.std.proofs.lemmas.Bool.{and_from}
+use Rattle.rvs_yaml.proofs.WholeLines.{both_true}
 use Rattle.rvs_yaml_text.specs.Bytes.{space_byte, single_quote_byte, hash_byte, dash_byte, dot_byte}
 use Rattle.rvs_yaml_text.specs.Bytes.{colon_byte}
 use Rattle.rvs_yaml_text.specs.Word.{nothing, text, key, Word}
@@ -14,8 +16,7 @@ use Rattle.rvs_yaml_text.specs.Printed.{in_quotes, doubled}
 use Rattle.rvs_yaml_text.specs.Text.{word_at, words_at, last_words, line_words, is_mark, key_of}
 use Rattle.rvs_yaml_text.specs.Text.{shape_from}
 use Rattle.rvs_yaml_text.proofs.Printing.{printed-reads-back}
-use Rattle.rvs_cgf.specs.Keys.{is_printable}
-use Rattle.rvs_normal.proofs.Truths.{both, and-true}
+use Rattle.rvs_points.specs.Keys.{is_printable}
 use Rattle.rvs_normal.proofs.Lines.{is_ink, inked-append, inked-utf8}
 
 -- ---- names
@@ -43,14 +44,14 @@ split-name : (spaced : Bool) (cs : List ℕ) → list_all is_next cs ≡ true
     → key_split spaced (cs ++ (colon_byte ∷ [])) ≡ Some (cs, [])
 split-name spaced [] h = refl
 split-name spaced (c ∷ cs) h =
-    let p = both (is_next c) (list_all is_next cs) h in
+    let p = both_true (is_next c) (list_all is_next cs) h in
     let n = not-marks c p.0 in
     rw (n.hash, n.colon, key_split) (ap (onto c) (split-name (c == 32) cs p.1))
 
 pub trimmed-name : (cs : List ℕ) → list_all is_next cs ≡ true → trimmed cs ≡ cs
 trimmed-name [] h = refl
-trimmed-name (c ∷ []) h = rw ((not-marks c (both (is_next c) true h).0).space) refl
-trimmed-name (c ∷ d ∷ cs) h = let p = both (is_next c) (list_all is_next (d ∷ cs)) h in
+trimmed-name (c ∷ []) h = rw ((not-marks c (both_true (is_next c) true h).0).space) refl
+trimmed-name (c ∷ d ∷ cs) h = let p = both_true (is_next c) (list_all is_next (d ∷ cs)) h in
     rw (trimmed-name (d ∷ cs) p.1) refl
 
 -- ---- a name with a colon behind it
@@ -80,7 +81,7 @@ starts-well c cs h = grind (arith, not-start)
 key-of-name : (c : ℕ) (cs : List ℕ) → is_first c ≡ true → list_all is_next cs ≡ true
     → key_of (c ∷ (cs ++ (colon_byte ∷ []))) ≡ Some (key_name (c ∷ cs), [])
 key-of-name c cs h k =
-    grind (arith, not-start, and-true, first-next, starts-well, split-name, trimmed-name)
+    grind (arith, not-start, and_from, first-next, starts-well, split-name, trimmed-name)
 
 at-last : (line column c : ℕ) (bs : List ℕ) → (c == 32) ≡ false → (c == 45) ≡ false
     → words_at line false column (c ∷ bs) ≡ last_words line false column (c ∷ bs)
@@ -144,23 +145,23 @@ next-ink c h = grind (arith, nat_tests)
 
 name-inked : (cs : List ℕ) → list_all is_next cs ≡ true → is_printable cs ≡ true
 name-inked [] h = refl
-name-inked (c ∷ cs) h = let p = both (is_next c) (list_all is_next cs) h in
-    and-true (is_ink c) (is_printable cs) (next-ink c p.0) (name-inked cs p.1)
+name-inked (c ∷ cs) h = let p = both_true (is_next c) (list_all is_next cs) h in
+    and_from (is_ink c) (is_printable cs) (next-ink c p.0) (name-inked cs p.1)
 
 pub plain-inked : (name : List ℕ) → is_plain name ≡ true → is_printable name ≡ true
-plain-inked name h = search (rules, both, and-true, is_ink, next-ink, first-next, name-inked)
+plain-inked name h = search (rules, both_true, and_from, is_ink, next-ink, first-next, name-inked)
 
 doubled-inked : (k : List ℕ) → is_printable k ≡ true → is_printable (doubled k) ≡ true
 doubled-inked [] h = refl
 doubled-inked (c ∷ cs) h =
-    let p = both (is_ink c) (is_printable cs) h in
+    let p = both_true (is_ink c) (is_printable cs) h in
     doubled-one c cs (c == single_quote_byte) refl p.0 (doubled-inked cs p.1)
   where
     doubled-one : (c : ℕ) (cs : List ℕ) (b : Bool) → (c == single_quote_byte) ≡ b → is_ink c ≡ true
         → is_printable (doubled cs) ≡ true → is_printable (doubled (c ∷ cs)) ≡ true
     doubled-one c cs true e i r = rw (e, doubled) r
     doubled-one c cs false e i r =
-        rw (e, doubled) (and-true (is_ink c) (is_printable (doubled cs)) i r)
+        rw (e, doubled) (and_from (is_ink c) (is_printable (doubled cs)) i r)
 
 pub row-inked : (r : Row) → IsRow r → is_printable (row_text r) ≡ true
 row-inked r h = search (rules, inked-append, plain-inked, doubled-inked)
@@ -168,9 +169,9 @@ row-inked r h = search (rules, inked-append, plain-inked, doubled-inked)
 words-of-row : (line : ℕ) (r : Row) → IsRow r
     → words_at line false 0 (row_text r) ≡ row_words line r
 words-of-row line (label_row []) h = cc
-words-of-row line (label_row (c ∷ cs)) h = grind (arith, both, name-word)
+words-of-row line (label_row (c ∷ cs)) h = grind (arith, both_true, name-word)
 words-of-row line (node_row []) h = cc
-words-of-row line (node_row (c ∷ cs)) h = grind (arith, both, name-word)
+words-of-row line (node_row (c ∷ cs)) h = grind (arith, both_true, name-word)
 words-of-row line (point_row k) h = quoted-word line k
 words-of-row line (note_row t) h = refl
 words-of-row line (inner_note_row t) h = refl

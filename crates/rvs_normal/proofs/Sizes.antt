@@ -2,6 +2,7 @@
 use Rattle.std.proofs.Common.{◌≡◌, ℕ, suc, ◌+◌, ◌≤◌, min, false, List, [], ◌∷◌, ◌++◌, refl}
 use Rattle.std.proofs.Common.{sym, ap, ◌∙◌, arith, append_assoc, append-nil}
 use Rattle.std.specs.Prelude.{map}
+use Rattle.rvs_tree.proofs.Views.{pairs_of-entries_of}
 use Rattle.rvs_tree.specs.Data.{entries_of, pairs_of, own_pairs, Pairs, depth, entries_depth}
 use Rattle.rvs_tree.specs.Value.{Written, map_value, resolved, written_nodes_from}
 use Rattle.rvs_tree.specs.Value.{plus, text_nodes}
@@ -20,13 +21,9 @@ resolved-own explicit so_far (w ∷ ws) own =
     rw (own.0, resolved) (resolved-own explicit (so_far ++ ((w.key, w.value.tree) ∷ [])) ws own.1
     ∙ append_assoc so_far ((w.key, w.value.tree) ∷ []) (pairs ws))
 
-pub pairs-back : (es : Pairs) → pairs_of (entries_of es) ≡ es
-pairs-back [] = refl
-pairs-back (e ∷ es) = ap (λ r. e ∷ r) (pairs-back es)
-
 pub own-pairs : (line : ℕ) (ws : List Written) → AreOwn ws
     → own_pairs (map_value line ws).tree ≡ pairs ws
-own-pairs line ws own = simp (resolved-own, pairs-back)
+own-pairs line ws own = simp (resolved-own, pairs_of-entries_of)
 
 -- ---- depth
 abbrev pub AreShallow : ℕ → List Written → Type 0

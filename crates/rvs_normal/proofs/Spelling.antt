@@ -5,20 +5,22 @@ use Rattle.std.specs.Prelude.{◌&&◌, ◌||◌, map, codes}
 use Rattle.std.specs.List.{list_all}
 use mathlib.Core.Bool.{cond}
 use Rattle.std.proofs.lemmas.Bool.Decides.{nat_tests}
+use Rattle.std.proofs.lemmas.Bool.{and_from}
+use Rattle.rvs_yaml.proofs.WholeLines.{both_true}
 use Rattle.rvs_tree.specs.Data.{Data, own_pairs, is_map, is_scalar}
 use Rattle.rvs_tree.specs.Value.{Value, Written}
 use Rattle.rvs_yaml_text.specs.Scalar.{key_name}
 use Rattle.rvs_yaml.specs.Parsed.{answer}
 use Rattle.rvs_abstract.specs.Calls.{is_letter, is_digit}
-use Rattle.rvs_cgf.specs.Keys.{is_name_byte, is_label_name, is_printable}
+use Rattle.rvs_points.specs.Keys.{is_name_byte, is_label_name, is_printable}
 use Rattle.rvs_cgf.specs.Groups.{Point, Skipped, Label, is_empty_scalar}
-use Rattle.rvs_cgf.specs.declared.group.Kind.{Kind}
-use Rattle.rvs_cgf.specs.Print.{kind_name, normal_text}
+use Rattle.rvs_points.specs.declared.group.Kind.{Kind}
+use Rattle.rvs_points.specs.Kinds.{kind_name}
+use Rattle.rvs_cgf.specs.Print.{normal_text}
 use Rattle.rvs_cgf.specs.Spelled.{Block, joined, blocks, selected, kinds_are_apart, SpellsKeys}
 use Rattle.rvs_cgf.specs.Spelled.{SpellsNodes, SpellsLabels, SpellsAll, Spells}
-use Rattle.rvs_cgf.specs.Valid.{are_distinct}
+use Rattle.rvs_points.specs.Valid.{are_distinct}
 use Rattle.rvs_normal.specs.Again.{names_are_apart, notes_are_printable, KeepsLimit}
-use Rattle.rvs_normal.proofs.Truths.{both, and-true}
 use Rattle.rvs_normal.proofs.Lines.{inked-append}
 use Rattle.rvs_normal.proofs.Rows.{is_first, is_next, is_plain, Row, point_row}
 use Rattle.rvs_normal.proofs.Columns.{parts_cols}
@@ -62,16 +64,6 @@ ArePrinted (l ∷ ls) =
     (l.selected ≡ true → IsPrinted l) × (notes_are_printable l ≡ true) × ArePrinted ls
 
 -- ---- lines
-first-byte : (c : ℕ) → (is_letter c || is_digit c) ≡ true → is_first c ≡ true
-first-byte c h = grind (arith, nat_tests)
-
-next-byte : (c : ℕ) → is_name_byte c ≡ true → is_next c ≡ true
-next-byte c h = grind (arith, nat_tests)
-
-next-bytes : (cs : List ℕ) → list_all is_name_byte cs ≡ true → list_all is_next cs ≡ true
-next-bytes [] h = refl
-next-bytes (c ∷ cs) h = let p = both (is_name_byte c) (list_all is_name_byte cs) h in
-    and-true (is_next c) (list_all is_next cs) (next-byte c p.0) (next-bytes cs p.1)
 
 pub name-plain : (name : List ℕ) → is_label_name name ≡ true → is_plain name ≡ true
 name-plain name h = grind arith
@@ -96,7 +88,7 @@ points-good : (before : Option Kind) (ps : List Point)
     → list_all (λ p. is_printable p.key) ps ≡ true → AreRows (points_rows before ps)
 points-good before [] h = tt
 points-good before (p ∷ ps) h =
-    let q = both (is_printable p.key) (list_all (λ p. is_printable p.key) ps) h in
+    let q = both_true (is_printable p.key) (list_all (λ p. is_printable p.key) ps) h in
     rows-append (head_rows before p.kind) (point_row p.key ∷ points_rows (Some p.kind) ps)
     (head-good before p.kind) (q.0, points-good (Some p.kind) ps q.1)
 
@@ -105,9 +97,9 @@ skipped-good : (ss : List Skipped)
     → AreRows (map skipped_row ss)
 skipped-good [] h = tt
 skipped-good (s ∷ ss) h =
-    let p = both (is_printable s.node && is_printable s.key)
+    let p = both_true (is_printable s.node && is_printable s.key)
     (list_all (λ s. is_printable s.node && is_printable s.key) ss) h in
-    let q = both (is_printable s.node) (is_printable s.key) p.0 in (
+    let q = both_true (is_printable s.node) (is_printable s.key) p.0 in (
       inked-append (codes " skipped ") (s.node ++ (codes " " ++ s.key)) refl
           (inked-append s.node (codes " " ++ s.key) q.0 q.1),
       skipped-good ss p.1,
@@ -119,7 +111,7 @@ label-good l h n = by-case l.selected refl
   where
     by-case : (s : Bool) → l.selected ≡ s → AreRows (label_rows l)
     by-case true e =
-        let p = both (is_printable l.name)
+        let p = both_true (is_printable l.name)
         (list_all (λ s. is_printable s.node && is_printable s.key) l.skipped) n in
         rw (e, label_rows) (
           name-plain l.name (h e).named,
@@ -127,7 +119,7 @@ label-good l h n = by-case l.selected refl
               (points-good None l.points (h e).keys_printable) (skipped-good l.skipped p.1),
         )
     by-case false e =
-        let p = both (is_printable l.name)
+        let p = both_true (is_printable l.name)
         (list_all (λ s. is_printable s.node && is_printable s.key) l.skipped) n in
         rw (e, label_rows) (inked-append (codes " unselected ") l.name refl p.0, tt)
 
@@ -177,9 +169,6 @@ names-of-groups (l ∷ ls) = ap (λ ns. l.name ∷ ns) (names-of-groups ls)
 abbrev pub points_cost : List Point → ℕ
 points_cost [] = 0
 points_cost (p ∷ ps) = (138 + length p.key) + points_cost ps
-
-kind-short : (k : Kind) → length (kind_name k) ≤ 10
-kind-short k = grind arith
 
 joined-cost : (p : Point) (bs : List Block)
     → 64 * nodes_count (map node_of (joined p bs))
@@ -257,9 +246,6 @@ joined-full p bs f = grind arith
 blocks-full : (ps : List Point) → NoneEmpty (blocks ps)
 blocks-full [] = tt
 blocks-full (p ∷ ps) = joined-full p (blocks ps) (blocks-full ps)
-
-joined-some : (p : Point) (bs : List Block) → SomeBlock (joined p bs)
-joined-some p bs = grind arith
 
 some-blocks : (ps : List Point) → IsSome ps → SomeBlock (blocks ps)
 some-blocks ps f = grind arith

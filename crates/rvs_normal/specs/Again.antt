@@ -9,7 +9,7 @@ use Rattle.rvs_yaml_text.specs.Text.{lines_of, words_of}
 use Rattle.rvs_yaml.specs.Block.{tree_of}
 use Rattle.rvs_yaml.specs.Parsed.{answer}
 use Rattle.rvs_abstract.specs.declared.families.Families.{Families}
-use Rattle.rvs_cgf.specs.Keys.{is_printable}
+use Rattle.rvs_points.specs.Keys.{is_printable}
 use Rattle.rvs_cgf.specs.Groups.{Label, groups_of}
 use Rattle.rvs_cgf.specs.Print.{normal_text}
 use Rattle.rvs_cgf.specs.Spelled.{bare, selected}

@@ -9,7 +9,7 @@ use Rattle.rvs_expr.specs.Equation.{number_of, equation_of}
 use Rattle.rvs_abstract.specs.declared.families.Families.{Families}
 use Rattle.rvs_cgf.specs.Groups.{Label, point, op_is, nums, groups_of}
 use Rattle.rvs_cgf.specs.Spelled.{Spells}
-use Rattle.rvs_cgf.specs.declared.group.Kind.TheVariants.{Mnemonic, ValComb}
+use Rattle.rvs_points.specs.declared.group.Kind.TheVariants.{Mnemonic, ValComb}
 
 -- `add`, where its first source has the value 7
 abbrev pub example : Label

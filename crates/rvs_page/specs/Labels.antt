@@ -38,7 +38,8 @@ points_bar l =
 -- and those that the logs hit
 unfoldable pub coverage_bar_begins : Label → List ℕ
 coverage_bar_begins l =
-    told (Html (codes "<td class=\"share\"><span class=\"bar\" role=\"img\" aria-label=\"coverage: ")
+    told
+    (Html (codes "<td class=\"share\"><span class=\"bar\" role=\"img\" aria-label=\"coverage: ")
     ∷ Number (hit l) ∷ Html (codes " hit, ") ∷ Number (missed l) ∷ Html (codes " not hit\">") ∷ [])
 
 unfoldable pub coverage_bar : Label → List ℕ

@@ -1,6 +1,6 @@
 -- Parts of a list, place by place.
-use Rattle.std.proofs.Common.{◌≡◌, ◌≤◌, ◌<◌, ℕ, zero, suc, ◌+◌, ◌%◌, Bool, true, false, cond}
-use Rattle.std.proofs.Common.{List, [], ◌∷◌, Some, None, refl, ap, ◌∙◌, arith}
+use Rattle.std.proofs.Common.{◌≡◌, ◌≤◌, ◌<◌, ℕ, zero, suc, ◌+◌, ◌%◌, Bool, true, cond}
+use Rattle.std.proofs.Common.{List, [], ◌∷◌, Some, None, refl, ap, ◌∙◌, arith, rules}
 use Rattle.std.specs.Prelude.{◌==◌, ◌&&◌, map}
 use Rattle.std.specs.List.{list_all}
 use Rattle.std.proofs.lemmas.Bool.Decides.{nat_tests}
@@ -36,10 +36,7 @@ parts-zero (suc of) = omega (arith, parts-zero of)
 parts-plus : (f g : ℕ → ℕ) (of : ℕ)
     → in_parts of (λ at. f at + g at) ≡ in_parts of f + in_parts of g
 parts-plus f g zero = refl
-parts-plus f g (suc of) =
-    let all : f (suc of) + g (suc of) + (in_parts of f + in_parts of g)
-    ≡ f (suc of) + in_parts of f + (g (suc of) + in_parts of g) = omega arith in
-    ap (λ (n : ℕ). f (suc of) + g (suc of) + n) (parts-plus f g of) ∙ all
+parts-plus f g (suc of) = grind (arith, (parts-plus f g of))
 
 -- one number is counted in its part alone
 abbrev picked : ℕ → ℕ → ℕ → ℕ
@@ -47,23 +44,11 @@ picked r v at = cond (r == at) v 0
 
 pick-none : (r v : ℕ) (of : ℕ) → of < r → in_parts of (picked r v) ≡ 0
 pick-none r v zero low = refl
-pick-none r v (suc of) low =
-    let other : (r == suc of) ≡ false = grind (arith, nat_tests) in
-    let later : in_parts of (picked r v) ≡ 0 = pick-none r v of (omega (arith, low)) in
-    let all : 0 + in_parts of (picked r v) ≡ 0 = omega (arith, later) in
-    ap (λ (b : Bool). cond b v 0 + in_parts of (picked r v)) other ∙ all
+pick-none r v (suc of) low = grind (arith, (pick-none r v of (omega (arith, low))))
 
 pick-by : (r v of : ℕ) (b : Bool) → (r == suc of) ≡ b → 1 ≤ r → r ≤ suc of
     → (r ≤ of → in_parts of (picked r v) ≡ v) → in_parts (suc of) (picked r v) ≡ v
-pick-by r v of true is low high before =
-    let none : in_parts of (picked r v) ≡ 0 = pick-none r v of (grind (arith, nat_tests)) in
-    let all : v + 0 ≡ v = omega arith in
-    ap (λ (b : Bool). cond b v 0 + in_parts of (picked r v)) is
-    ∙ ap (λ (n : ℕ). v + n) none ∙ all
-pick-by r v of false is low high before =
-    let later : in_parts of (picked r v) ≡ v = before (grind (arith, nat_tests)) in
-    let all : 0 + in_parts of (picked r v) ≡ v = omega (arith, later) in
-    ap (λ (b : Bool). cond b v 0 + in_parts of (picked r v)) is ∙ all
+pick-by r v of b is low high before = search (rules, pick-none)
 
 pick-one : (r v of : ℕ) → 1 ≤ r → r ≤ of → in_parts of (picked r v) ≡ v
 pick-one r v zero low high = absurd (omega (arith, low, high))
@@ -76,8 +61,7 @@ part-from f place xs of at = over f (parted_from (Some (record { at = at; of = o
 
 first-by : {X : Type 0} (f : X → ℕ) (x : X) (rest : List X) (b : Bool)
     → over f (cond b (x ∷ rest) rest) ≡ cond b (f x) 0 + over f rest
-first-by f x rest true = refl
-first-by f x rest false = omega arith
+first-by = grind arith
 
 add-from : {X : Type 0} (f : X → ℕ) (of : ℕ) → 1 ≤ of → (place : ℕ) (xs : List X)
     → in_parts of (part-from f place xs of) ≡ over f xs
@@ -96,15 +80,12 @@ parts_add_up f xs of some = add-from f of some 0 xs
 -- ---- what is made of each
 map-by : {X Y : Type 0} (f : X → Y) (x : X) (rest : List X) (b : Bool)
     → cond b (f x ∷ map f rest) (map f rest) ≡ map f (cond b (x ∷ rest) rest)
-map-by f x rest true = refl
-map-by f x rest false = refl
+map-by = grind arith
 
 pub mapped_from : {X Y : Type 0} (f : X → Y) (p : PartValue) (place : ℕ) (xs : List X)
     → parted_from (Some p) place (map f xs) ≡ map f (parted_from (Some p) place xs)
 mapped_from f p place [] = refl
-mapped_from f p place (x ∷ xs) =
-    ap (λ ys. cond (has p place) (f x ∷ ys) ys) (mapped_from f p (place + 1) xs)
-    ∙ map-by f x (parted_from (Some p) (place + 1) xs) (has p place)
+mapped_from f p place (x ∷ xs) = grind (arith, map-by, (mapped_from f p (place + 1) xs))
 
 pub parts_are_mapped : {X : Type 0} → PartsAreMapped X
 parts_are_mapped f xs p = mapped_from f p 0 xs
@@ -112,16 +93,13 @@ parts_are_mapped f xs p = mapped_from f p 0 xs
 -- ---- what holds of all
 all-by : {X : Type 0} (test : X → Bool) (x : X) (rest : List X) (b : Bool) → test x ≡ true
     → list_all test rest ≡ true → list_all test (cond b (x ∷ rest) rest) ≡ true
-all-by test x rest true here later = ap (λ (t : Bool). t && list_all test rest) here ∙ later
-all-by test x rest false here later = later
+all-by test x = grind arith
 
 both-left : (a b : Bool) → (a && b) ≡ true → a ≡ true
-both-left true b is = refl
-both-left false b is = absurd cc
+both-left a b is = grind arith
 
 both-right : (a b : Bool) → (a && b) ≡ true → b ≡ true
-both-right true b is = is
-both-right false b is = absurd cc
+both-right a b is = grind arith
 
 all-from : {X : Type 0} (test : X → Bool) (p : PartValue) (place : ℕ) (xs : List X)
     → list_all test xs ≡ true → list_all test (parted_from (Some p) place xs) ≡ true
@@ -139,13 +117,11 @@ EachFrom test place xs of =
 
 later-by : {X : Type 0} (test : X → Bool) (x : X) (rest : List X) (b : Bool)
     → list_all test (cond b (x ∷ rest) rest) ≡ true → list_all test rest ≡ true
-later-by test x rest true is = both-right (test x) (list_all test rest) is
-later-by test x rest false is = is
+later-by test = grind arith
 
 here-by : {X : Type 0} (test : X → Bool) (x : X) (rest : List X) (b : Bool) → b ≡ true
     → list_all test (cond b (x ∷ rest) rest) ≡ true → test x ≡ true
-here-by test x rest true holds is = both-left (test x) (list_all test rest) is
-here-by test x rest false holds is = absurd cc
+here-by test x = grind arith
 
 whole-from : {X : Type 0} (test : X → Bool) (of : ℕ) → 1 ≤ of → (place : ℕ) (xs : List X)
     → EachFrom test place xs of → list_all test xs ≡ true
@@ -173,10 +149,7 @@ all-in place = grind (arith, nat_tests)
 one-from : {X : Type 0} (place : ℕ) (xs : List X)
     → parted_from (Some (record { at = 1; of = 1 })) place xs ≡ xs
 one-from place [] = refl
-one-from place (x ∷ xs) =
-    ap (λ (b : Bool). cond b (x ∷ parted_from (Some (record { at = 1; of = 1 })) (place + 1) xs)
-    (parted_from (Some (record { at = 1; of = 1 })) (place + 1) xs)) (all-in place)
-    ∙ ap (λ ys. x ∷ ys) (one-from (place + 1) xs)
+one-from place (x ∷ xs) = simp (all-in, (one-from (place + 1) xs))
 
 no-part : {X : Type 0} (place : ℕ) (xs : List X) → parted_from None place xs ≡ xs
 no-part place [] = refl

@@ -1,7 +1,7 @@
 -- Each thing of a list is in one part.
 use Rattle.std.proofs.Common.{◌≡◌, ◌⊎◌, inl, inr, ℕ, zero, suc, ◌+◌, Bool, true, false}
 use Rattle.std.proofs.Common.{cond, List, [], ◌∷◌, Option, Some, Contains, slice_get}
-use Rattle.std.proofs.Common.{refl, sym, ap, ◌∙◌, arith}
+use Rattle.std.proofs.Common.{sym, ap, ◌∙◌, arith, rules}
 use Rattle.rvs_parts.specs.Parts.{PartValue, has, is_in, parted_from}
 use Rattle.rvs_parts.specs.Laws.{ThingsAreInOne, PartsHaveNoMore}
 use Rattle.rvs_parts.proofs.Adding.{each_is_in_one}
@@ -9,8 +9,7 @@ use Rattle.rvs_parts.proofs.Adding.{each_is_in_one}
 -- ---- a thing of a list has a place
 first-or-later : {X : Type 0} (y : X) (ys : List X) (x : X) → Contains (y ∷ ys) x
     → (y ≡ x) ⊎ Contains ys x
-first-or-later y ys x (zero, within, is) = inl is
-first-or-later y ys x (suc k, within, is) = inr (k, omega (arith, within), is)
+first-or-later y = grind arith
 
 at-first : {X : Type 0} (y : X) (ys : List X) (x : X) → y ≡ x → Contains (y ∷ ys) x
 at-first y ys x is = (zero, omega arith, is)
@@ -59,13 +58,11 @@ stands-by part place y ys x false here later h =
 stands : {X : Type 0} (part : Option PartValue) (place : ℕ) (xs : List X) (x : X)
     → Contains (parted_from part place xs) x → StandsIn part place xs x
 stands part place [] x (k, within, is) = absurd (omega (arith, within))
-stands part place (y ∷ ys) x h =
-    stands-by part place y ys x (is_in part place) refl (stands part (place + 1) ys x) h
+stands part place (y ∷ ys) x h = search (rules, stands-by, (stands part (place + 1) ys x))
 
 kept-first : {X : Type 0} (y : X) (rest : List X) (x : X) (b : Bool) → b ≡ true → y ≡ x
     → Contains (cond b (y ∷ rest) rest) x
-kept-first y rest x true holds is = at-first y rest x is
-kept-first y rest x false holds is = absurd cc
+kept-first y rest = grind arith
 
 kept-later : {X : Type 0} (y : X) (rest : List X) (x : X) (b : Bool) → Contains rest x
     → Contains (cond b (y ∷ rest) rest) x
@@ -76,10 +73,7 @@ inside : {X : Type 0} (part : Option PartValue) (place : ℕ) (xs : List X) (x :
     → slice_get xs k ≡ Some x → is_in part (place + k) ≡ true
     → Contains (parted_from part place xs) x
 inside part place [] x k is here = absurd cc
-inside part place (y ∷ ys) x zero is here =
-    let same : y ≡ x = cc in
-    kept-first y (parted_from part (place + 1) ys) x (is_in part place)
-    (ap (λ (n : ℕ). is_in part n) (from-here place) ∙ here) same
+inside part place (y ∷ ys) x zero is here = grind (arith, kept-first, from-here)
 inside part place (y ∷ ys) x (suc k) is here =
     kept-later y (parted_from part (place + 1) ys) x (is_in part place)
     (inside part (place + 1) ys x k is (ap (λ (n : ℕ). is_in part n) (one-on place k) ∙ here))

@@ -1,24 +1,24 @@
 -- What `compare` does.
-use Rattle.std.specs.Prelude.{ℕ, List, length, Result, Ok, Err}
+use Rattle.std.specs.Prelude.{ℕ, List, length, Result}
 use Rattle.rvs_plan.specs.Plan.{Plan, Ends, gives, prints, ◌>>=◌}
 use Rattle.rvs_plan.specs.Inputs.{input}
+use Rattle.rvs_plan.specs.Refusing.{end_at}
 use Rattle.rvs_plan.specs.declared.stop.Stop.{Stop}
-use Rattle.rvs_plan.specs.declared.stop.Stop.TheVariants.{Refused}
 use Rattle.rvs_plan.specs.declared.status.Finish.{Finish}
 use Rattle.rvs_plan.specs.declared.status.Finish.TheVariants.{Done, NotPassed}
 use Rattle.rvs_device.specs.Judged.{signature_limit}
+use Rattle.rvs_sig.specs.Printed.{refusal_text}
 use Rattle.rvs_sig.specs.Words.{words_of}
 use Rattle.rvs_sig.specs.Verdicts.{verdict_of}
 use Rattle.rvs_sig.specs.declared.words.SigRefusal.{SigRefusal}
 use Rattle.rvs_sig.specs.declared.comparison.Verdict.{Verdict}
 use Rattle.rvs_sig.specs.declared.comparison.Verdict.TheVariants.{Same, Differs, Lengths}
-use Rattle.rvs_plain.specs.Texts.{verdict_line, refusal_text}
+use Rattle.rvs_plain.specs.Texts.{verdict_line}
 use Rattle.rvs_words.specs.declared.command.CompareArguments.{CompareArguments}
 
 -- the words of the named file, or its refusal
 abbrev pub words_end : List ℕ → Result (List ℕ) SigRefusal → Result (List ℕ) Stop
-words_end name (Ok words) = Ok words
-words_end name (Err refusal) = Err (Refused (refusal_text name refusal))
+words_end name found = end_at refusal_text name found
 
 abbrev pub words : List ℕ → List ℕ → Plan (List ℕ)
 words name bytes = Ends (words_end name (words_of bytes))

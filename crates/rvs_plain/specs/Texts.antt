@@ -1,8 +1,6 @@
--- The lines that `compare` puts, and the texts of its refusals.
+-- The lines that `compare` puts.
 use Rattle.std.specs.Prelude.{ℕ, List, [], ◌++◌, codes, decimal}
 use Rattle.rvs_base.specs.Number.{hex_word_of}
-use Rattle.rvs_sig.specs.declared.words.SigRefusal.{SigRefusal}
-use Rattle.rvs_sig.specs.declared.words.SigRefusal.TheVariants.{BadLine, TooLong, NoMemory}
 use Rattle.rvs_sig.specs.declared.comparison.Verdict.{Verdict}
 use Rattle.rvs_sig.specs.declared.comparison.Verdict.TheVariants.{Same, Differs, Lengths}
 
@@ -26,15 +24,3 @@ abbrev pub verdict_line : ℕ → Verdict → List ℕ
 verdict_line n (Same same) = same_line same
 verdict_line n (Differs at left right differing) = differs_line n at left right differing
 verdict_line n (Lengths left right) = lengths_line left right
-
--- why a signature file has no words: its first bad line, or its length
-unfoldable pub bad_line_text : List ℕ → ℕ → List ℕ
-bad_line_text name line = name ++ (codes ": sig 1 line " ++ decimal line)
-
-unfoldable pub too_many_text : List ℕ → List ℕ
-too_many_text name = name ++ codes ": sig 2"
-
-abbrev pub refusal_text : List ℕ → SigRefusal → List ℕ
-refusal_text name (BadLine line) = bad_line_text name line
-refusal_text name TooLong = too_many_text name
-refusal_text name NoMemory = []

@@ -9,8 +9,8 @@ ghost use Rattle.rvs_plain.specs.Compare.{words, signature, verdict_finish, anno
 use crate::texts;
 use rvs_base::{Host, Items, Sink, Text};
 use rvs_device::SIGNATURE_LIMIT;
-use rvs_plan::{Finish, Stop, print, read_input};
-use rvs_sig::{SigRefusal, Verdict, compare, read_words};
+use rvs_plan::{Finish, Stop, accepted, print, read_input};
+use rvs_sig::{Verdict, compare, read_words};
 use rvs_words::CompareArguments;
 use std::alloc::Global;
 
@@ -50,11 +50,7 @@ pub fn read_signature<H: Host>(alloc: Global, host: &mut H, name: &Text) -> Resu
 fn check_words(alloc: Global, name: &str, bytes: &[u8]) -> Result<Items<u32>, Stop>
     ensures { (w : World) → Meets (words name.now bytes.now) w w result }
 {
-    match read_words(alloc, bytes) {
-        Ok(words) => Ok(words),
-        Err(SigRefusal::NoMemory) => Err(Stop::NoMemory),
-        Err(refusal) => Err(Stop::Refused(texts::refusal_text(alloc, name, &refusal)?)),
-    }
+    accepted(alloc, name, read_words(alloc, bytes))
 }
 
 fn print_verdict<O: Sink>(

@@ -2,10 +2,9 @@
 ghost use Rattle.std.specs.Prelude.{◌≡◌, ℕ, IfOk};
 ghost use Rattle.rvs_base.specs.Number.{hex_word_of};
 ghost use Rattle.rvs_plain.specs.Texts.{verdict_line, same_line, differs_line, lengths_line};
-ghost use Rattle.rvs_plain.specs.Texts.{refusal_text, bad_line_text, too_many_text};
 
 use rvs_base::{NoMemory, Text, hex_text};
-use rvs_sig::{SigRefusal, Verdict};
+use rvs_sig::Verdict;
 use std::alloc::Global;
 
 /// The line of a verdict. The left file spells `n` words.
@@ -62,33 +61,4 @@ fn lengths_line(alloc: Global, left: usize, right: usize) -> Result<Text, NoMemo
     ensures { IfOk result (λ line. line ≡ lengths_line left right) }
 {
     Ok(Text::from(format!(in alloc; "FAIL lengths {left} and {right}\n")?))
-}
-
-/// Why the named signature file has no words.
-///
-/// # Errors
-///
-/// [`NoMemory`].
-pub fn refusal_text(alloc: Global, name: &str, refusal: &SigRefusal) -> Result<Text, NoMemory>
-    ensures { IfOk result (λ text. text ≡ refusal_text name.now refusal.now) }
-{
-    match *refusal {
-        SigRefusal::BadLine { line } => bad_line_text(alloc, name, line),
-        SigRefusal::TooLong => too_many_text(alloc, name),
-        SigRefusal::NoMemory => Err(NoMemory),
-    }
-}
-
-#[tactic(auto, unfolding(crate::specs::Texts::bad_line_text))]
-fn bad_line_text(alloc: Global, name: &str, line: u32) -> Result<Text, NoMemory>
-    ensures { IfOk result (λ text. text ≡ bad_line_text name.now line) }
-{
-    Ok(Text::from(format!(in alloc; "{name}: sig 1 line {line}")?))
-}
-
-#[tactic(auto, unfolding(crate::specs::Texts::too_many_text))]
-fn too_many_text(alloc: Global, name: &str) -> Result<Text, NoMemory>
-    ensures { IfOk result (λ text. text ≡ too_many_text name.now) }
-{
-    Ok(Text::from(format!(in alloc; "{name}: sig 2")?))
 }

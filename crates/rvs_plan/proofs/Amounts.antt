@@ -1,9 +1,8 @@
 -- What is read on ways through plans that follow one another.
 use Rattle.std.proofs.Common.{◌≡◌, List, [], ◌∷◌, ◌++◌, Option, Some, None, Result, Ok, Err, refl}
-use Rattle.std.proofs.Common.{sym, ap, subst, ◌∙◌, ℕ}
+use Rattle.std.proofs.Common.{sym, ap, subst, ◌∙◌, ℕ, arith}
 use Rattle.rvs_base.specs.Host.{Files, HostState, Tells, IsUnread}
 use Rattle.rvs_base.specs.File.{ReadsAtMost}
-use Rattle.rvs_base.proofs.Reading.{ReadsAtMost-behind}
 use Rattle.rvs_plan.specs.World.{World, contents}
 use Rattle.rvs_plan.specs.Effect.{Effect, Read, Device, Did, after, Saw}
 use Rattle.rvs_plan.specs.Plan.{Plan, Ends, Does, Asks, Runs, ◌>>=◌, gives, Goes}
@@ -15,8 +14,7 @@ pub IsUnread-same : {h : HostState} → IsUnread h h
 IsUnread-same = record { openings = refl; taken = refl }
 
 IsUnread-trans : {a b c : HostState} → IsUnread a b → IsUnread b c → IsUnread a c
-IsUnread-trans u v =
-    record { openings = v.openings ∙ u.openings; taken = v.taken ∙ u.taken }
+IsUnread-trans u v = grind arith
 
 -- nothing was read before it
 TakesOn-behind : {A : Type 0} (plan : Plan A) (es : List Effect) (a b c : HostState)
@@ -27,8 +25,7 @@ TakesOn-behind (Does deed plan) (Did d ∷ es) a b c u t = TakesOn-behind plan e
 TakesOn-behind (Does deed plan) (Read n found ∷ es) a b c u t = absurd t
 TakesOn-behind (Does deed plan) (Device w g s answer ∷ es) a b c u t = absurd t
 TakesOn-behind (Asks name bound next) (Did d ∷ es) a b c u t = absurd t
-TakesOn-behind (Asks name bound next) (Read n found ∷ es) a b c u t =
-    (t.0, ReadsAtMost-behind u t.1, t.2)
+TakesOn-behind (Asks name bound next) (Read n found ∷ es) a b c u t = grind arith
 TakesOn-behind (Asks name bound next) (Device w g s answer ∷ es) a b c u t = absurd t
 TakesOn-behind (Runs words test signature next) (Did d ∷ es) a b c u t = absurd t
 TakesOn-behind (Runs words test signature next) (Read n found ∷ es) a b c u t = absurd t
@@ -38,8 +35,7 @@ TakesOn-behind (Runs words test signature next) (Device w g s answer ∷ es) a b
 -- one way, and then another
 TakesOn-append : {A : Type 0} (plan mid rest : Plan A) (es es' : List Effect) (a b c : HostState)
     → Goes plan es mid → TakesOn plan es a b → TakesOn mid es' b c → TakesOn plan (es ++ es') a c
-TakesOn-append plan mid rest [] es' a b c g t v =
-    TakesOn-behind plan es' a b c t (subst (λ (p : Plan _). TakesOn p es' b c) (sym g) v)
+TakesOn-append plan mid rest [] es' a b c g t v = grind (arith, TakesOn-behind)
 TakesOn-append (Ends end) mid rest (e ∷ es) es' a b c g t v = absurd g
 TakesOn-append (Does deed plan) mid rest (Did d ∷ es) es' a b c g t v =
     TakesOn-append plan mid rest es es' a b c g.1 t v
@@ -50,8 +46,10 @@ TakesOn-append (Asks name bound next) mid rest (Read n found ∷ es) es' a b c g
     (t.0, t.1, TakesOn-append (next found) mid rest es es' t.0 b c g.1 t.2 v)
 TakesOn-append (Asks name bound next) mid rest (Device w x s answer ∷ es) es' a b c g t v = absurd g
 TakesOn-append (Runs words test signature next) mid rest (Did d ∷ es) es' a b c g t v = absurd g
-TakesOn-append (Runs words test signature next) mid rest (Read n found ∷ es) es' a b c g t v = absurd g
-TakesOn-append (Runs words test signature next) mid rest (Device w x s answer ∷ es) es' a b c g t v =
+TakesOn-append (Runs words test signature next) mid rest (Read n found ∷ es) es' a b c g t v =
+    absurd g
+TakesOn-append (Runs words test signature next) mid rest
+    (Device w x s answer ∷ es) es' a b c g t v =
     TakesOn-append (next answer) mid rest es es' a b c g.3 t v
 
 -- a way of a first piece is one of the whole
@@ -89,9 +87,7 @@ held (Some files) name = files name
 
 pub held-there : (told : Option Files) (name : List ℕ) (files : Files) → told ≡ Some files
     → files name ≡ held told name
-held-there None name files is = absurd cc
-held-there (Some f) name files is =
-    let same : f ≡ files = cc in sym (ap (λ (g : Files). g name) same)
+held-there told name files is = grind arith
 
 -- a file was read, and this follows
 pub ReadsOnWay-ask : {A : Type 0} {name : List ℕ} {bound : ℕ} {next : Option (List ℕ) → Plan A}
@@ -173,5 +169,4 @@ ReadsFor-stop next stop first = (first.0 >>= next, ReadsOnWay-then next first.1)
 -- by any result, this way was gone
 pub ReadsFor-way : {A : Type 0} {plan : Plan A} {old new : World} (result : Result A Stop)
     → ReadsFor plan old new result → (rest : Plan A) × ReadsOnWay plan rest old new
-ReadsFor-way (Ok a) reads = (gives a, reads.way)
-ReadsFor-way (Err stop) reads = reads
+ReadsFor-way h = grind arith

@@ -1,5 +1,5 @@
 -- How stretches of effects follow one another.
-use Rattle.std.proofs.Common.{◌≡◌, List, [], ◌∷◌, ◌++◌, refl, sym, ap, subst, ◌∙◌}
+use Rattle.std.proofs.Common.{◌≡◌, List, [], ◌∷◌, ◌++◌, refl, sym, ap, subst, arith}
 use Rattle.rvs_plan.specs.World.{Contents}
 use Rattle.rvs_plan.specs.Effect.{Effect, Read, Device, Did, after_one, after, Saw}
 use Rattle.rvs_plan.specs.Plan.{Plan, Ends, Does, Asks, Runs, ◌>>=◌, Goes}
@@ -55,19 +55,9 @@ Reaches-start plan c = record { effects = []; goes = refl; saw = tt; did = refl 
 
 pub Reaches-trans : {A : Type 0} {plan mid rest : Plan A} {old between new : Contents}
     → Reaches plan mid old between → Reaches mid rest between new → Reaches plan rest old new
-Reaches-trans {A} {plan} {mid} {rest} {old} {between} {new} r s = record {
-  effects = r.effects ++ s.effects;
-  goes = Goes-append plan mid rest r.effects s.effects r.goes s.goes;
-  saw = Saw-append r.effects s.effects old r.saw
-      (subst (λ (c : Contents). Saw s.effects c) r.did s.saw);
-  did = s.did ∙ ap (after s.effects) r.did ∙ sym (after-append r.effects s.effects old);
-}
+Reaches-trans {A} {plan} {mid} {rest} {old} {between} {new} r s =
+    grind (arith, Goes-append, Saw-append, after-append)
 
 pub Reaches-then : {A B : Type 0} (next : A → Plan B) {p q : Plan A} {old new : Contents}
     → Reaches p q old new → Reaches (p >>= next) (q >>= next) old new
-Reaches-then next {p} {q} r = record {
-  effects = r.effects;
-  goes = Goes-then next p q r.effects r.goes;
-  saw = r.saw;
-  did = r.did;
-}
+Reaches-then next {p} {q} r = grind (arith, Goes-then)

@@ -4,6 +4,7 @@ pub mod Plan
 pub mod Reads
 pub mod Performed
 pub mod Inputs
+pub mod Refusing
 pub mod Meets
 pub mod Account
 pub mod Laws

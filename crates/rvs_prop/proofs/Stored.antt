@@ -3,7 +3,7 @@ use Rattle.std.proofs.Common.{◌≡◌, ◌≤◌, ℕ, zero, suc, Bool, true, 
 use Rattle.std.proofs.Common.{◌∷◌, ◌++◌, Some, ap, ◌∙◌, get_or, arith}
 use Rattle.std.specs.Prelude.{◌==◌, ◌&&◌, ◌||◌, not, map}
 use Rattle.std.specs.List.{slice_get}
-use Rattle.rvs_count.specs.Counting.{Aim, hits}
+use Rattle.rvs_index.specs.Counting.{Aim, hits}
 use Rattle.rvs_prop.specs.Acts.{Act}
 use Rattle.rvs_prop.specs.Reach.{reached, reaches, saves_register}
 use Rattle.rvs_prop.specs.Reach.{target_of}

@@ -3,8 +3,8 @@ use Rattle.std.specs.Prelude.{ℕ, ◌+◌, Bool, true, false, if◌then◌else�
 use Rattle.std.specs.Prelude.{take, drop, codes}
 use Rattle.std.specs.List.{flat_map}
 use Rattle.std.specs.Fmt.{decimal}
-use Rattle.rvs_cgf.specs.Groups.{Label, Meaning, Point, window}
-use Rattle.rvs_cgf.specs.Print.{kind_name}
+use Rattle.rvs_points.specs.Points.{Label, Meaning, Point, window}
+use Rattle.rvs_points.specs.Kinds.{kind_name}
 use Rattle.rvs_count.specs.Report.{hit_count, skipped_line, width}
 
 -- a point is measured, unless it is a cross point

@@ -2,7 +2,7 @@
 use Rattle.std.specs.Prelude.{◌≡◌, ◌≤◌, ℕ, ◌==◌, true, false, List, ◌∷◌, ◌++◌, Some}
 use Rattle.std.specs.Prelude.{slice_index_or}
 use Rattle.std.specs.List.{slice_get}
-use Rattle.rvs_count.specs.Counting.{Aim, hits}
+use Rattle.rvs_index.specs.Counting.{Aim, hits}
 use Rattle.rvs_prop.specs.Acts.{Act}
 use Rattle.rvs_prop.specs.Reach.{saves_register, target_of}
 

@@ -1,13 +1,13 @@
 // The report of which hits of a log reached the signature.
 ghost use Rattle.std.specs.Prelude.{◌≡◌, ◌≤◌, ◌++◌, IfOk, IsTrue, OnOk, codes, length, map};
-ghost use Rattle.rvs_cgf.specs.GroupView.{label_view, meaning_view, point_view};
-ghost use Rattle.rvs_count.specs.Counting.{aims_in};
+ghost use Rattle.rvs_points.specs.PointView.{label_view, meaning_view, point_view};
+ghost use Rattle.rvs_index.specs.Counting.{aims_in};
 ghost use Rattle.rvs_count.specs.Report as count;
 ghost use Rattle.rvs_prop.specs.Report as spec;
 
 use rvs_base::{NoMemory, Text};
-use rvs_cgf::{Groups, Label, Meaning, Point};
 use rvs_count::{hit_count, push_skipped, width};
+use rvs_points::{Groups, Label, Meaning, Point};
 use std::alloc::Global;
 
 /// Whether a point is measured: whether it isn't a cross point.

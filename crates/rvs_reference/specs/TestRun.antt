@@ -1,14 +1,16 @@
 -- What comes of a test file: its image, and the run of that.
-use Rattle.std.specs.Prelude.{◌≡◌, ◌||◌, ℕ, Bool, nat_eq, if◌then◌else◌, List, Option, Some, None}
-use Rattle.std.specs.Prelude.{unwrap_or, Result, Ok, Err, codes, ⊤}
+use Rattle.std.specs.Prelude.{◌≡◌, ◌||◌, ℕ, Bool, false, nat_eq, if◌then◌else◌, List, Option}
+use Rattle.std.specs.Prelude.{Some, None, unwrap_or, Result, Ok, Err, codes, ⊤}
 use Rattle.std.specs.List.{ends_with}
 use Rattle.rvs_plan.specs.Plan.{Plan, Ends}
+use Rattle.rvs_plan.specs.Refusing.{input_text}
 use Rattle.rvs_plan.specs.declared.stop.Stop.{Stop}
 use Rattle.rvs_plan.specs.declared.stop.Stop.TheVariants.{Usage, Refused, NoFile, CannotRead}
 use Rattle.rvs_plan.specs.declared.stop.Stop.TheVariants.{CannotWrite, CannotRun, NoMemory}
 use Rattle.rvs_plan.specs.declared.stop.Stop.TheVariants.{SinkFault}
 use Rattle.rvs_insn.specs.Isa.{Isa}
 use Rattle.rvs_machine.specs.Image.{ImageValue}
+use Rattle.rvs_machine.specs.ImageNumbers.{refusal_text as image_text}
 use Rattle.rvs_machine.specs.ImageText.{image_of_bytes}
 use Rattle.rvs_machine.specs.Machine.{Setup, started, signature_of}
 use Rattle.rvs_machine.specs.Run.{Outcome, run_of}
@@ -17,11 +19,13 @@ use Rattle.rvs_machine.specs.declared.event.End.{End}
 use Rattle.rvs_machine.specs.declared.event.Executed.{Executed}
 use Rattle.rvs_machine.specs.declared.event.End.TheVariants as ended
 use Rattle.rvs_elf.specs.Executable.{image_of_elf}
+use Rattle.rvs_elf.specs.Numbers.{refusal_text as elf_text}
 use Rattle.rvs_elf.specs.declared.refusal.ElfRefusal.{ElfRefusal}
 use Rattle.rvs_asm_text.specs.Header.{header_steps}
 use Rattle.rvs_asm.specs.Answer.{answer}
+use Rattle.rvs_asm.specs.KindNumbers.{refusal_text as asm_text}
 use Rattle.rvs_asm.specs.declared.refusal.AsmRefusal.{AsmRefusal}
-use Rattle.rvs_reference.specs.TestTexts.{image_text, elf_text, asm_text, trap_text, steps_text}
+use Rattle.rvs_reference.specs.TestTexts.{trap_text, steps_text}
 use Rattle.rvs_reference.specs.declared.test_run.Run.{Run}
 
 -- a value, or the text that says why an input is refused, as an end
@@ -59,17 +63,23 @@ is_image_name name = ends_with nat_eq name (codes ".img")
 abbrev pub is_executable_name : List ℕ → Bool
 is_executable_name name = ends_with nat_eq name (codes ".elf")
 
+-- the name is that of assembler text, and of no image file or executable
+abbrev pub NamesText : List ℕ → Type 0
+NamesText name = (is_image_name name ≡ false) × (is_executable_name name ≡ false)
+
+-- what comes of the named input, or the line that says why it is refused
+abbrev pub named : {A R : Type 0} → (R → List ℕ) → List ℕ → Result A R → Result A (List ℕ)
+named said name (Ok a) = Ok a
+named said name (Err refusal) = Err (input_text name (said refusal))
+
 abbrev pub file_found : List ℕ → Result ImageValue ImageRefusal → Result ImageValue (List ℕ)
-file_found name (Ok image) = Ok image
-file_found name (Err refusal) = Err (image_text name refusal)
+file_found name found = named image_text name found
 
 abbrev pub executable_found : List ℕ → Result ImageValue ElfRefusal → Result ImageValue (List ℕ)
-executable_found name (Ok image) = Ok image
-executable_found name (Err refusal) = Err (elf_text name refusal)
+executable_found name found = named elf_text name found
 
 abbrev pub text_found : List ℕ → Result ImageValue AsmRefusal → Result ImageValue (List ℕ)
-text_found name (Ok image) = Ok image
-text_found name (Err refusal) = Err (asm_text name refusal)
+text_found name found = named asm_text name found
 
 -- the image of a test file, which is an image file, an executable or assembler text
 abbrev pub image_found : Isa → List ℕ → List ℕ → Result ImageValue (List ℕ)

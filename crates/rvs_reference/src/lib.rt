@@ -7,4 +7,4 @@ mod test_run;
 
 pub use assembling::assemble;
 pub use reference::{TEST_LIMIT, run_reference};
-pub use test_run::{Run, image_of, image_of_text, limit_of, run_image};
+pub use test_run::{Run, image_of, limit_of, run_bytes, run_image};

@@ -1,28 +1,22 @@
 // The image of a test, and its run.
-ghost use Rattle.std.specs.Prelude.{◌≡◌, ◌≢◌, ◌++◌, [], ℕ, codes, IfOk};
+ghost use Rattle.std.specs.Prelude.{◌≡◌, ◌++◌, [], ℕ, codes, IfOk};
 ghost use Rattle.rvs_base.specs.Number.{hex_word_of};
 ghost use Rattle.rvs_insn.specs.Isa.{Isa};
 ghost use Rattle.rvs_machine.specs.Image.{ImageValue};
-ghost use Rattle.rvs_machine.specs.ImageText.{image_of_bytes};
 ghost use Rattle.rvs_machine.specs.Machine.{started};
-ghost use Rattle.rvs_elf.specs.Executable.{image_of_elf};
 ghost use Rattle.rvs_asm.specs.Answer.{answer};
-ghost use Rattle.rvs_reference.specs.TestTexts.{image_text, elf_text, elf_detail, asm_text};
-ghost use Rattle.rvs_reference.specs.TestTexts.{asm_detail, trap_text, trap_detail, steps_text};
-ghost use Rattle.rvs_reference.specs.TestRun.{is_image_name, is_executable_name, file_found};
-ghost use Rattle.rvs_reference.specs.TestRun.{executable_found, text_found, image_found, limit_of};
-ghost use Rattle.rvs_reference.specs.TestRun.{run_found, with_trace, test_found, Accepts};
+ghost use Rattle.rvs_reference.specs.TestTexts.{trap_text, trap_detail, steps_text};
+ghost use Rattle.rvs_reference.specs.TestRun.{is_image_name, is_executable_name, text_found};
+ghost use Rattle.rvs_reference.specs.TestRun.{image_found, limit_of, run_found, with_trace};
+ghost use Rattle.rvs_reference.specs.TestRun.{test_found, Accepts};
 
 use crate::assembling::assemble;
-use rvs_asm::{AsmKind, AsmRefusal};
 use rvs_asm_text::steps_of_header;
 use rvs_base::{Items, NoMemory, Text, hex_text};
-use rvs_elf::{ElfRefusal, read_elf};
-use rvs_insn::{IsaSpec, MemoryMap};
-use rvs_machine::{
-    End, Image, ImageKind, ImageRefusal, Machine, Trace, Trap, TrapKind, read_image,
-};
-use rvs_plan::Stop;
+use rvs_elf::read_elf;
+use rvs_insn::IsaSpec;
+use rvs_machine::{End, Image, Machine, Trace, Trap, TrapKind, read_image};
+use rvs_plan::{Stop, accepted};
 use std::alloc::Global;
 
 /// How many instructions a test may have, where nothing says it.
@@ -90,34 +84,11 @@ pub fn image_of(alloc: Global, spec: IsaSpec, name: &str, bytes: &[u8]) -> Resul
     ensures { Accepts (image_found spec name.now bytes.now) result }
 {
     if is_image_name(name) {
-        image_of_file(alloc, spec.memory, name, bytes)
+        accepted(alloc, name, read_image(alloc, spec.memory, bytes))
     } else if is_executable_name(name) {
-        image_of_executable(alloc, spec.memory, name, bytes)
+        accepted(alloc, name, read_elf(alloc, spec.memory, bytes))
     } else {
         image_of_text(alloc, spec, name, bytes)
-    }
-}
-
-fn image_of_file(alloc: Global, memory: MemoryMap, name: &str, bytes: &[u8]) -> Result<Image, Stop>
-    ensures { Accepts (file_found name.now (image_of_bytes memory bytes.now)) result }
-{
-    match read_image(alloc, memory, bytes) {
-        Ok(image) => Ok(image),
-        Err(refusal) => Err(Stop::Refused(image_text(alloc, name, &refusal)?)),
-    }
-}
-
-fn image_of_executable(
-    alloc: Global,
-    memory: MemoryMap,
-    name: &str,
-    bytes: &[u8],
-) -> Result<Image, Stop>
-    ensures { Accepts (executable_found name.now (image_of_elf memory bytes.now)) result }
-{
-    match read_elf(alloc, memory, bytes) {
-        Ok(image) => Ok(image),
-        Err(refusal) => Err(Stop::Refused(elf_text(alloc, name, &refusal)?)),
     }
 }
 
@@ -129,10 +100,7 @@ fn image_of_executable(
 pub fn image_of_text(alloc: Global, spec: IsaSpec, name: &str, bytes: &[u8]) -> Result<Image, Stop>
     ensures { Accepts (text_found name.now (answer spec bytes.now)) result }
 {
-    match assemble(alloc, bytes, &spec) {
-        Ok(image) => Ok(image),
-        Err(refusal) => Err(Stop::Refused(asm_text(alloc, name, &refusal)?)),
-    }
+    accepted(alloc, name, assemble(alloc, bytes, &spec))
 }
 
 /// Runs the image of the named test on a core until it halts, for at most `limit` instructions.
@@ -176,93 +144,6 @@ fn run_to_end(
         End::Trapped(trap) => Err(Stop::Refused(trap_text(alloc, name, trap)?)),
         End::StepLimit => Err(Stop::Refused(steps_text(alloc, name, limit)?)),
         End::NoMemory => Err(Stop::NoMemory),
-    }
-}
-
-/// Why the named file is no image. There is no text where memory was wanting.
-fn image_text(alloc: Global, name: &str, refusal: &ImageRefusal) -> Result<Text, NoMemory>
-    ensures fault { IfOk result (λ _. refusal.now.kind ≢ ImageKind.NoMemory) }
-    ensures text { IfOk result (λ text. text ≡ image_text name.now refusal.now) }
-{
-    match refusal.kind {
-        ImageKind::NoMemory => Err(NoMemory),
-        kind => image_line(alloc, name, refusal.line, kind),
-    }
-}
-
-#[tactic(auto, unfolding(crate::specs::TestTexts::image_text))]
-fn image_line(alloc: Global, name: &str, line: u64, kind: ImageKind) -> Result<Text, NoMemory>
-    ensures { IfOk result
-        (λ text. text ≡ image_text name.now (record { line = line; kind = kind })) }
-{
-    let number = kind.number();
-    Ok(Text::from(format!(in alloc; "{name}: image {number} line {line}")?))
-}
-
-/// Why the named file is no executable. There is no text where memory was wanting.
-fn elf_text(alloc: Global, name: &str, refusal: &ElfRefusal) -> Result<Text, NoMemory>
-    ensures fault { IfOk result (λ _. refusal.now ≢ ElfRefusal.NoMemory) }
-    ensures text { IfOk result (λ text. text ≡ elf_text name.now refusal.now) }
-{
-    match refusal {
-        ElfRefusal::NoMemory => Err(NoMemory),
-        _ => elf_line(alloc, name, refusal),
-    }
-}
-
-#[tactic(auto, unfolding(crate::specs::TestTexts::elf_text))]
-fn elf_line(alloc: Global, name: &str, refusal: &ElfRefusal) -> Result<Text, NoMemory>
-    ensures { IfOk result (λ text. text ≡ elf_text name.now refusal.now) }
-{
-    let number = refusal.number();
-    let detail = elf_detail(alloc, refusal)?;
-    Ok(Text::from(format!(in alloc; "{name}: elf {number}{detail}")?))
-}
-
-fn elf_detail(alloc: Global, refusal: &ElfRefusal) -> Result<Text, NoMemory>
-    ensures { IfOk result (λ text. text ≡ elf_detail refusal.now) }
-{
-    match refusal {
-        ElfRefusal::BadSegment { index } => {
-            let index = *index;
-            Ok(Text::from(format!(in alloc; " index {index}")?))
-        },
-        ElfRefusal::MissingSymbol { name } => Ok(Text::from(format!(in alloc; " name {name}")?)),
-        _ => Ok(Text::new(alloc)),
-    }
-}
-
-/// Why no image stands to the named text. There is no text where memory was wanting.
-fn asm_text(alloc: Global, name: &str, refusal: &AsmRefusal) -> Result<Text, NoMemory>
-    ensures fault { IfOk result (λ _. refusal.now.kind ≢ AsmKind.NoMemory) }
-    ensures text { IfOk result (λ text. text ≡ asm_text name.now refusal.now) }
-{
-    match refusal.kind {
-        AsmKind::NoMemory => Err(NoMemory),
-        _ => asm_line(alloc, name, refusal),
-    }
-}
-
-#[tactic(auto, unfolding(crate::specs::TestTexts::asm_text))]
-fn asm_line(alloc: Global, name: &str, refusal: &AsmRefusal) -> Result<Text, NoMemory>
-    ensures { IfOk result (λ text. text ≡ asm_text name.now refusal.now) }
-{
-    let number = refusal.kind.number();
-    let line = refusal.line;
-    let detail = asm_detail(alloc, &refusal.kind)?;
-    Ok(Text::from(format!(in alloc; "{name}: asm {number} line {line}{detail}")?))
-}
-
-fn asm_detail(alloc: Global, kind: &AsmKind) -> Result<Text, NoMemory>
-    ensures { IfOk result (λ text. text ≡ asm_detail kind.now) }
-{
-    match kind {
-        AsmKind::OutOfRange { value } => {
-            let value = *value;
-            Ok(Text::from(format!(in alloc; " value {value}")?))
-        },
-        AsmKind::MissingSymbol { name } => Ok(Text::from(format!(in alloc; " name {name}")?)),
-        _ => Ok(Text::new(alloc)),
     }
 }
 

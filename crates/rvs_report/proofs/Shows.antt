@@ -8,8 +8,8 @@ use Rattle.std.proofs.lemmas.Option.{slice_get-map, slice_get_past, slice_get_re
 use Rattle.std.specs.Option.{option_copied}
 use Rattle.std.specs.Slice.{IsItemAt}
 use Rattle.rvs_cgf.specs.GroupView.{point_view, skipped_view}
-use Rattle.rvs_cgf.specs.declared.group.Point.{Point}
-use Rattle.rvs_cgf.specs.declared.group.Skipped.{Skipped}
+use Rattle.rvs_points.specs.declared.group.Point.{Point}
+use Rattle.rvs_points.specs.declared.group.Skipped.{Skipped}
 use Rattle.rvs_page.specs.declared.shown.Case.{Case}
 use Rattle.rvs_page.specs.declared.shown.Point.{Point as ShownPoint}
 use Rattle.rvs_page.specs.declared.shown.Skipped.{Skipped as ShownSkipped}
@@ -69,11 +69,6 @@ entries_more shown one ss i d h is =
     ∙ ap (λ (x : ShownSkipped). shown ++ x
     ∷ map shown_skipped (map skipped_view (drop (i + 1) ss))) is
     ∙ sym (ap (λ xs. shown ++ map shown_skipped (map skipped_view xs)) (drop-at ss i d h))
-
-pub entries_all : (shown : List ShownSkipped) (ss : List Skipped)
-    → shown ++ map shown_skipped (map skipped_view (drop (length ss) ss)) ≡ shown
-entries_all shown ss =
-    ap (λ xs. shown ++ map shown_skipped (map skipped_view xs)) (drop-whole ss) ∙ append-nil shown
 
 -- ---- the lines of a case
 code_more : (k : ℕ) (lines : List (List ℕ)) (line : List ℕ) (more : List (List ℕ))
@@ -178,10 +173,3 @@ cases_more found ps lines after cs i d shown h other behind_it =
     (shown_cases found (map point_view ps) after (drop (i + 1) cs))
     ∙ ap (λ (t : List Case). shown ++ t) (cases_differ found ps lines after cs i d
     (slice_get ps (get_or cs i d).point) h other refl behind_it)
-
-pub cases_all : (found : Found) (ps : List Point) (lines : List (List ℕ)) (shown : List Case)
-    (cs : List Claim)
-    → shown ++ shown_cases found (map point_view ps) lines (drop (length cs) cs) ≡ shown
-cases_all found ps lines shown cs =
-    ap (λ xs. shown ++ shown_cases found (map point_view ps) lines xs) (drop-whole cs)
-    ∙ append-nil shown

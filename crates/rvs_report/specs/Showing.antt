@@ -4,7 +4,7 @@ use Rattle.std.specs.Prelude.{if◌then◌else◌, List, [], ◌∷◌, ◌++◌
 use Rattle.std.specs.Prelude.{Option, Some, None, slice_get, unwrap_or, bytes_eq, take}
 use Rattle.rvs_base.specs.Lines.{cut_lines}
 use Rattle.rvs_cgf.specs.Groups.{Label, Point, Skipped, Meaning, window}
-use Rattle.rvs_cgf.specs.Print.{kind_name}
+use Rattle.rvs_points.specs.Kinds.{kind_name}
 use Rattle.rvs_page.specs.declared.shown.State.TheVariants as state
 use Rattle.rvs_page.specs.declared.shown.Case.{Case}
 use Rattle.rvs_page.specs.declared.shown.Point.{Point as ShownPoint}

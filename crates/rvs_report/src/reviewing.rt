@@ -4,12 +4,14 @@ ghost use Rattle.rvs_base.specs.Sink.{SinkState};
 ghost use Rattle.rvs_plan.specs.World.{world, IsAnswer};
 ghost use Rattle.rvs_plan.specs.Meets.{MeetsWith};
 ghost use Rattle.rvs_sig.specs.Verdicts.{verdict_of};
+ghost use Rattle.rvs_reference.specs.TestRun.{NamesText};
 ghost use Rattle.rvs_generate.specs.Tests.{IsRunnable};
 ghost use Rattle.rvs_report.specs.Findings.{likeness, asks_like, found_open, compared};
 ghost use Rattle.rvs_report.specs.Findings.{judged_left, finds_signature, finds_words, finds_test};
 
 use rvs_base::{Bytes, FileRefusal, Host, Items, NoMemory, Text, read_file};
 use rvs_device::SIGNATURE_LIMIT;
+use rvs_fault::Fault;
 use rvs_generate::{Test, TestFiles, reference_of};
 use rvs_insn::IsaSpec;
 use rvs_page::State;
@@ -111,11 +113,12 @@ fn find_words<H: Host>(
     files: &TestFiles,
     test: &Test,
 ) -> Result<Found, Stop>
-    requires { IsRunnable isa test.now }
+    requires runs { IsRunnable isa test.now }
+    requires text { NamesText files.now.test }
     ensures { (out : SinkState) → MeetsWith IsAnswer (finds_words files.now isa test.now)
         (world (H.state host.old) out) (world (H.state host.new) out) result }
 {
-    let words = reference_of(alloc, isa, test)?;
+    let words = reference_of(alloc, isa, &files.test, test)?;
     let text = print_words(alloc, words.as_slice())?;
     match read_like(alloc, host, &files.reference, text.as_str().as_bytes())? {
         Likeness::Absent => Ok(found_open(alloc, State::NotRun)),
@@ -152,9 +155,11 @@ fn judge_left(alloc: Global, words: Items<u32>, bytes: Bytes) -> Result<Found, N
     }
     match read_words(alloc, bytes.as_slice()) {
         Ok(device) => Ok(compared(alloc, device, words)),
-        Err(SigRefusal::BadLine { line }) => Ok(found_open(alloc, State::BadLine { line })),
-        Err(SigRefusal::TooLong) => Ok(found_open(alloc, State::TooLong)),
-        Err(SigRefusal::NoMemory) => Err(NoMemory),
+        Err(Fault::Refused(SigRefusal::BadLine { line })) => {
+            Ok(found_open(alloc, State::BadLine { line }))
+        },
+        Err(Fault::Refused(SigRefusal::TooLong)) => Ok(found_open(alloc, State::TooLong)),
+        Err(Fault::NoMemory) => Err(NoMemory),
     }
 }
 

@@ -1,2 +1,1 @@
-mod DatabaseSteps
-mod DatabaseMade
+pub mod MadeFound

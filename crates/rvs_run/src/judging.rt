@@ -11,18 +11,21 @@ ghost use Rattle.rvs_device.specs.Command.{wants_elf};
 ghost use Rattle.rvs_device.specs.Judging.{Task};
 ghost use Rattle.rvs_device.specs.Plans.{stopped};
 ghost use Rattle.rvs_reference.specs.TestRun.{Accepts};
-ghost use Rattle.rvs_generate.specs.Tests.{IsRunnable};
-ghost use Rattle.rvs_run.specs.RunTests.{if_asked, made_for, writes_executable, judges_by};
-ghost use Rattle.rvs_run.specs.RunTests.{judges_words, judges, passes, announces, judges_one};
+ghost use Rattle.rvs_generate.specs.Tests.{IsReady, IsRunnable};
+ghost use Rattle.rvs_run.specs.RunTests.{if_asked, made_for, made_found, makes, writes_held};
+ghost use Rattle.rvs_run.specs.RunTests.{writes_executable, judges_by, judges_words, judges_made};
+ghost use Rattle.rvs_run.specs.RunTests.{passes, announces, judges_one};
 ghost use Rattle.rvs_run.specs.RunView.{bench_view};
+ghost use Rattle.rvs_generate.specs.declared.sources.Source.TheVariants.{Read};
 
 use rvs_base::{Bytes, Host, Items, NoMemory, Sink, Text};
 use rvs_device::{Device, Filling, JudgeFault, TestVerdict, judge, verdict_line};
 use rvs_elf::write_elf;
-use rvs_generate::{Test, TestFiles, image_of, words_of};
+use rvs_generate::{Given, Source, Test, TestFiles, name_of};
 use rvs_insn::IsaSpec;
 use rvs_machine::Image;
-use rvs_plan::{Stop, print, write_output};
+use rvs_plan::{Stop, print, read_input, write_output};
+use rvs_reference::{TEST_LIMIT, image_of, limit_of, run_image};
 use rvs_sig::print_words;
 use rvs_words::owned;
 use std::alloc::Global;
@@ -54,60 +57,76 @@ pub fn judge_one<H: Host, O: Sink>(
     host: &mut H,
     out: &mut O,
     bench: &Bench,
-    test: &Test,
+    source: &Source,
 ) -> Result<bool, Stop>
-    requires { IsRunnable bench.now.isa test.now }
-    ensures { MeetsWith IsAnswer (judges_one (bench_view bench.now) test.now)
+    requires { IsReady bench.now.isa source.now }
+    ensures { MeetsWith IsAnswer (judges_one (bench_view bench.now) source.now)
         (world (H.state host.old) (O.state out.old))
         (world (H.state host.new) (O.state out.new)) result }
 {
-    let verdict = judge_test(alloc, host, bench, test)?;
-    print_verdict(alloc, test.name.as_str(), &verdict, out)
+    let made = make_test(alloc, host, bench, source)?;
+    let verdict = judge_made(alloc, host, bench, source, &made)?;
+    print_verdict(alloc, name_of(source), &verdict, out)
 }
 
-/// Writes a test, its executable where the device asks for it, and the words that it leaves on the
-/// reference machine, and judges the device by them.
-fn judge_test<H: Host>(
+/// What comes of a test before it is judged.
+fn make_test<H: Host>(
     alloc: Global,
     host: &mut H,
     bench: &Bench,
-    test: &Test,
-) -> Result<TestVerdict, Stop>
-    requires { IsRunnable bench.now.isa test.now }
-    ensures { (out : SinkState) → MeetsWith IsAnswer (judges (bench_view bench.now) test.now)
+    source: &Source,
+) -> Result<Made, Stop>
+    requires { IsReady bench.now.isa source.now }
+    ensures { (out : SinkState) → Meets (makes (bench_view bench.now) source.now)
         (world (H.state host.old) out) (world (H.state host.new) out) result }
 {
-    let made = make_test(alloc, bench, test)?;
-    write_test(alloc, host, &made.files, test)?;
-    write_executable(alloc, host, &made.files.executable, &made.executable)?;
-    judge_words(alloc, host, bench, &made.files, made.words.as_slice())
+    match source {
+        Source::Held(test) => make_held(alloc, bench, test),
+        Source::Read(given) => make_given(alloc, host, bench, given),
+    }
 }
 
-fn make_test(alloc: Global, bench: &Bench, test: &Test) -> Result<Made, Stop>
+/// The same of one that was made. It isn't refused.
+fn make_held(alloc: Global, bench: &Bench, test: &Test) -> Result<Made, Stop>
     requires { IsRunnable bench.now.isa test.now }
     ensures { Accepts (Ok (made_for (bench_view bench.now) test.now)) result }
 {
     let files = TestFiles::new(alloc, &bench.work, &test.name)?;
-    let image = image_of(alloc, bench.isa, test)?;
+    made_of(alloc, bench, files, test.text.as_str().as_bytes())
+}
+
+/// Reads a test, and runs it on the reference machine.
+fn make_given<H: Host>(
+    alloc: Global,
+    host: &mut H,
+    bench: &Bench,
+    given: &Given,
+) -> Result<Made, Stop>
+    ensures { (out : SinkState) → Meets (makes (bench_view bench.now) (Read given.now))
+        (world (H.state host.old) out) (world (H.state host.new) out) result }
+{
+    let bytes = read_input(alloc, host, given.name.as_str(), TEST_LIMIT)?;
+    let files = TestFiles::of_given(alloc, &bench.work, given)?;
+    made_of(alloc, bench, files, bytes.as_slice())
+}
+
+/// What comes of a test with these files and bytes before it is judged.
+fn made_of(alloc: Global, bench: &Bench, files: TestFiles, bytes: &[u8]) -> Result<Made, Stop>
+    ensures { Accepts (made_found (bench_view bench.now) files bytes.now) result }
+{
+    let image = image_of(alloc, bench.isa, files.test.as_str(), bytes)?;
     let executable = executable_of(alloc, &bench.device, &image)?;
-    let words = words_of(alloc, bench.isa, test, image)?;
+    let limit = limit_of(None, files.test.as_str(), bytes);
+    let run = run_image(alloc, files.test.as_str(), limit, bench.isa, image)?;
     Ok(Made {
         files,
         executable,
-        words,
+        words: run.words,
     })
 }
 
 /// The executable of an image, where the device asks for it.
-///
-/// # Errors
-///
-/// [`NoMemory`].
-pub fn executable_of(
-    alloc: Global,
-    device: &Device,
-    image: &Image,
-) -> Result<Option<Bytes>, NoMemory>
+fn executable_of(alloc: Global, device: &Device, image: &Image) -> Result<Option<Bytes>, NoMemory>
     ensures { IfOk result
         (λ made. made ≡ if_asked (wants_elf device.now.command) (elf_of image.now)) }
 {
@@ -118,25 +137,41 @@ pub fn executable_of(
     }
 }
 
-fn write_test<H: Host>(
+/// Writes the text of a test that was made, its executable where the device asks for it, and the
+/// words that it leaves on the reference machine, and judges the device by them.
+fn judge_made<H: Host>(
     alloc: Global,
     host: &mut H,
-    files: &TestFiles,
-    test: &Test,
-) -> Result<(), Stop>
-    ensures { (out : SinkState) → Meets (writes files.now.test test.now.text)
+    bench: &Bench,
+    source: &Source,
+    made: &Made,
+) -> Result<TestVerdict, Stop>
+    ensures { (out : SinkState) → MeetsWith IsAnswer
+        (judges_made (bench_view bench.now) source.now made.now)
         (world (H.state host.old) out) (world (H.state host.new) out) result }
 {
-    let name = owned(alloc, files.test.as_str())?;
-    write_output(host, name, test.text.as_str().as_bytes())
+    write_held(alloc, host, &made.files.test, source)?;
+    write_executable(alloc, host, &made.files.executable, &made.executable)?;
+    judge_words(alloc, host, bench, &made.files, made.words.as_slice())
+}
+
+fn write_held<H: Host>(
+    alloc: Global,
+    host: &mut H,
+    name: &Text,
+    source: &Source,
+) -> Result<(), Stop>
+    ensures { (out : SinkState) → Meets (writes_held name.now source.now)
+        (world (H.state host.old) out) (world (H.state host.new) out) result }
+{
+    match source {
+        Source::Held(test) => write_bytes(alloc, host, name, test.text.as_str().as_bytes()),
+        Source::Read(_) => Ok(()),
+    }
 }
 
 /// Writes an executable, where there is one.
-///
-/// # Errors
-///
-/// [`Stop`]: it can't be written.
-pub fn write_executable<H: Host>(
+fn write_executable<H: Host>(
     alloc: Global,
     host: &mut H,
     name: &Text,
@@ -175,11 +210,7 @@ fn write_words<H: Host>(
 }
 
 /// Writes the reference's words of a test that is written, and judges the device by them.
-///
-/// # Errors
-///
-/// [`Stop`]: a signature can't be written or read, or the device can't be run.
-pub fn judge_words<H: Host>(
+fn judge_words<H: Host>(
     alloc: Global,
     host: &mut H,
     bench: &Bench,
@@ -261,11 +292,7 @@ fn passes(verdict: &TestVerdict) -> bool
 }
 
 /// Puts a verdict, and says whether it is a pass.
-///
-/// # Errors
-///
-/// [`Stop::SinkFault`].
-pub fn print_verdict<O: Sink>(
+fn print_verdict<O: Sink>(
     alloc: Global,
     name: &str,
     verdict: &TestVerdict,

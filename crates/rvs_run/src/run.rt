@@ -5,7 +5,7 @@ ghost use Rattle.rvs_base.specs.Sink.{SinkState};
 ghost use Rattle.rvs_plan.specs.World.{world, IsAnswer};
 ghost use Rattle.rvs_plan.specs.Meets.{MeetsWith, Meets};
 ghost use Rattle.rvs_device.specs.DeviceView.{told};
-ghost use Rattle.rvs_generate.specs.Tests.{IsRunnable};
+ghost use Rattle.rvs_generate.specs.Tests.{IsReady};
 ghost use Rattle.rvs_run.specs.RunTests.{tally_line, with_one, judges_all, verdict_of_all};
 ghost use Rattle.rvs_run.specs.RunTests.{tallies, judges_tests, run};
 ghost use Rattle.rvs_run.specs.RunView.{bench_view};
@@ -13,7 +13,7 @@ ghost use Rattle.rvs_run.specs.RunView.{bench_view};
 use crate::judging::{Bench, judge_one};
 use rvs_base::{Host, NoMemory, Sink, Text};
 use rvs_device::Device;
-use rvs_generate::{Test, gather_tests, read_labels};
+use rvs_generate::{Source, gather_tests, read_labels};
 use rvs_inputs::read_device_file;
 use rvs_insn::IsaSpec;
 use rvs_plan::{Finish, Stop, print};
@@ -47,47 +47,58 @@ pub fn run_tests<H: Host, O: Sink>(
     )?;
     let device = read_device_file(alloc, host, &asked.device)?;
     let gathered = gather_tests(alloc, &inputs)?;
-    let bench = bench_of(alloc, asked, device, inputs.isa)?;
+    let bench = bench_of(alloc, &asked.program, &asked.work, device, inputs.isa)?;
     print(out, gathered.text.as_str().as_bytes())?;
     judge_tests(alloc, host, out, &bench, gathered.tests.as_slice())
 }
 
-fn bench_of(
+/// What tests are judged with, for this name of the program and this folder.
+///
+/// # Errors
+///
+/// [`NoMemory`].
+pub fn bench_of(
     alloc: Global,
-    asked: &RunArguments,
+    program: &Text,
+    work: &Text,
     device: Device,
     isa: IsaSpec,
 ) -> Result<Bench, NoMemory>
     ensures { IfOk result (λ bench. bench_view bench ≡ record {
-      program = asked.now.program;
+      program = program.now;
       device = told device;
-      work = asked.now.work;
+      work = work.now;
       isa = isa;
     }) }
 {
     Ok(Bench {
-        program: owned(alloc, asked.program.as_str())?,
+        program: owned(alloc, program.as_str())?,
         device,
-        work: owned(alloc, asked.work.as_str())?,
+        work: owned(alloc, work.as_str())?,
         isa,
     })
 }
 
 /// Judges all tests, and puts the totals.
-fn judge_tests<H: Host, O: Sink>(
+///
+/// # Errors
+///
+/// [`Stop`]; a test that isn't there, isn't accepted, traps or doesn't halt ends the work behind
+/// the verdicts before it.
+pub fn judge_tests<H: Host, O: Sink>(
     alloc: Global,
     host: &mut H,
     out: &mut O,
     bench: &Bench,
-    tests: &[Test],
+    sources: &[Source],
 ) -> Result<Finish, Stop>
-    requires { All (IsRunnable bench.now.isa) tests.now }
-    ensures { MeetsWith IsAnswer (judges_tests (bench_view bench.now) tests.now)
+    requires { All (IsReady bench.now.isa) sources.now }
+    ensures { MeetsWith IsAnswer (judges_tests (bench_view bench.now) sources.now)
         (world (H.state host.old) (O.state out.old))
         (world (H.state host.new) (O.state out.new)) result }
 {
-    let passed = judge_all(alloc, host, out, bench, tests)?;
-    print_totals(alloc, tests.len(), passed, out)
+    let passed = judge_all(alloc, host, out, bench, sources)?;
+    print_totals(alloc, sources.len(), passed, out)
 }
 
 /// How many of the tests pass.
@@ -96,24 +107,24 @@ fn judge_all<H: Host, O: Sink>(
     host: &mut H,
     out: &mut O,
     bench: &Bench,
-    tests: &[Test],
+    sources: &[Source],
 ) -> Result<usize, Stop>
-    requires { All (IsRunnable bench.now.isa) tests.now }
-    ensures met { MeetsWith IsAnswer (judges_all (bench_view bench.now) 0 tests.now)
+    requires { All (IsReady bench.now.isa) sources.now }
+    ensures met { MeetsWith IsAnswer (judges_all (bench_view bench.now) 0 sources.now)
         (world (H.state host.old) (O.state out.old))
         (world (H.state host.new) (O.state out.new)) result }
-    ensures some { IfOk result (λ passed. passed ≤ length tests.now) }
+    ensures some { IfOk result (λ passed. passed ≤ length sources.now) }
 {
     let mut passed = 0;
-    for test in tests {
-        let pass = judge_one(alloc, host, out, bench, test)?;
+    for source in sources {
+        let pass = judge_one(alloc, host, out, bench, source)?;
         passed = with_one(passed, pass);
     }
     Ok(passed)
 }
 
 /// How many tests pass, with one that does or doesn't.
-pub fn with_one(passed: usize, pass: bool) -> usize
+fn with_one(passed: usize, pass: bool) -> usize
     requires { passed < 2 ^ 63 }
     ensures value { result ≡ with_one passed pass }
     ensures some { result ≤ passed + 1 }
@@ -122,11 +133,7 @@ pub fn with_one(passed: usize, pass: bool) -> usize
 }
 
 /// Puts the totals.
-///
-/// # Errors
-///
-/// [`Stop::SinkFault`].
-pub fn print_totals<O: Sink>(
+fn print_totals<O: Sink>(
     alloc: Global,
     tests: usize,
     passed: usize,

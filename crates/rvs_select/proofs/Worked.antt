@@ -2,13 +2,15 @@
 use Rattle.std.proofs.Common.{◌≡◌, ℕ, true, false, List, [], ◌∷◌, ◌&&◌, Some, None}
 use Rattle.std.proofs.Common.{Result, Ok, subst, ◌∙◌, ap}
 use Rattle.std.specs.Prelude.{if◌then◌else◌, ◌||◌}
+use Rattle.rvs_fault.specs.Answers.{Answers}
+use Rattle.rvs_fault.specs.declared.faults.Fault.{Fault}
 use Rattle.rvs_insn.specs.Isa.{Isa}
 use Rattle.rvs_insn.specs.IsaName.{isa_name}
 use Rattle.rvs_tree.specs.Data.{Data}
 use Rattle.rvs_condition.specs.Config.{condition}
 use Rattle.rvs_select.specs.Database.{database_of, is_test_name, or_else, refusal_of, no_condition}
 use Rattle.rvs_select.specs.Database.{is_met, named}
-use Rattle.rvs_select.specs.Found.{Answers, unless}
+use Rattle.rvs_select.specs.Found.{unless}
 use Rattle.rvs_select.specs.Worked.{both_tests, TellsPartsApart}
 use Rattle.rvs_select.specs.declared.database.Entry.{Entry}
 use Rattle.rvs_select.specs.declared.refusal.SelectKind.TheVariants.{BadName}
@@ -29,7 +31,7 @@ told isa one two met unmet first second m u = λ k. unless
     (named one ((is_met (m k) && true) || ((is_met (u k) && true) || false))
     ∷ named two ((is_met (m k) && (is_met (u k) && true)) || false) ∷ [])
 
-pub tells_parts_apart : (isa : Isa) (root : Data) (r : Result (List Entry) SelectRefusal)
+pub tells_parts_apart : (isa : Isa) (root : Data) (r : Result (List Entry) (Fault SelectRefusal))
     → Answers r (database_of isa root) → TellsPartsApart isa root r
 tells_parts_apart isa root r answers one two met unmet first second m u is =
     subst (Answers r) (ap (database_of isa) is ∙ told isa one two met unmet first second m u)

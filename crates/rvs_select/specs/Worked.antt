@@ -1,13 +1,14 @@
 -- A worked database: which of two tests is selected, that have the same two checks.
 use Rattle.std.specs.Prelude.{◌≡◌, ℕ, true, false, List, [], ◌∷◌, map, Some, Result, Ok, IsTrue}
 use Rattle.std.specs.Prelude.{codes}
+use Rattle.rvs_fault.specs.Answers.{Answers}
+use Rattle.rvs_fault.specs.declared.faults.Fault.{Fault}
 use Rattle.rvs_insn.specs.Isa.{Isa}
 use Rattle.rvs_insn.specs.IsaName.{isa_name}
 use Rattle.rvs_tree.specs.Data.{Data, Pairs, scalar, sequence, mapping, no_entries, entry, items_of}
 use Rattle.rvs_tree.specs.Data.{entries_of}
 use Rattle.rvs_condition.specs.Config.{condition}
 use Rattle.rvs_select.specs.Database.{is_test_name, named}
-use Rattle.rvs_select.specs.Found.{Answers}
 use Rattle.rvs_select.specs.declared.database.Entry.{Entry}
 use Rattle.rvs_select.specs.declared.refusal.SelectRefusal.{SelectRefusal}
 
@@ -40,7 +41,7 @@ both_tests one two met unmet =
 
 -- Of two tests with a check that a core meets and one that it doesn't, the one that has a part for
 -- each is selected, and the one that has both in one part is not.
-abbrev pub TellsPartsApart : Isa → Data → Result (List Entry) SelectRefusal → Type 0
+abbrev pub TellsPartsApart : Isa → Data → Result (List Entry) (Fault SelectRefusal) → Type 0
 TellsPartsApart isa root result =
     (one two met unmet : List ℕ)
     → IsTrue (is_test_name one) → IsTrue (is_test_name two)

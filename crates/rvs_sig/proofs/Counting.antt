@@ -2,7 +2,7 @@
 use Rattle.std.proofs.Common.{◌≡◌, ℕ, ◌+◌, ◌<◌, ◌≤◌, suc, zero, cond, eqb, Bool, true, false, List}
 use Rattle.std.proofs.Common.{[], ◌∷◌, ◌++◌, length, take, get_or, Option, Some, None, is_none, Ok}
 use Rattle.std.proofs.Common.{Err, refl, sym, ap, ◌∙◌, arith, nat_lt, below_more, if◌then◌else◌}
-use Rattle.std.specs.List.{position, position_or_len, filter_map, cons_option}
+use Rattle.std.specs.List.{position, position_or_len, filter_map}
 use Rattle.std.proofs.lemmas.List.Elements.{filter_map-append}
 use Rattle.std.proofs.lemmas.List.{append-nil, append_assoc, length-append, take_all, take_at}
 use Rattle.std.proofs.lemmas.List.{get_or_append_left, get_or_at, length_push}
@@ -10,7 +10,7 @@ use Rattle.std.proofs.lemmas.List.Sums.{position_or_len_is}
 use Rattle.std.proofs.lemmas.Bool.Decides.{nat_tests}
 use Rattle.rvs_base.specs.Lines.{cut_lines, onto_first}
 use Rattle.rvs_sig.specs.declared.words.SigRefusal.TheVariants.{BadLine, TooLong}
-use Rattle.rvs_sig.specs.Words.{most_lines, word_of_line, first_bad, words_unless_bad}
+use Rattle.rvs_sig.specs.Words.{most_lines, word_of_line, first_bad}
 use Rattle.rvs_sig.specs.Words.{words_of_lines, words_of}
 
 abbrev pub is_bad : List ℕ → Bool
@@ -34,8 +34,7 @@ good_word o word is = rw is refl
 
 filter_map-push : (lines : List (List ℕ)) (line : List ℕ) (word : ℕ) → word_of_line line ≡ Some word
     → filter_map word_of_line (lines ++ line ∷ []) ≡ filter_map word_of_line lines ++ word ∷ []
-filter_map-push lines line word is = filter_map-append word_of_line lines (line ∷ [])
-    ∙ ap (λ o. filter_map word_of_line lines ++ cons_option o []) is
+filter_map-push lines line word is = grind (arith, filter_map-append)
 
 AreGood-push : (lines : List (List ℕ)) (line : List ℕ) → AreGood lines → is_bad line ≡ false
     → AreGood (lines ++ line ∷ [])
@@ -87,11 +86,7 @@ too_many n many = grind (arith, nat_tests)
 
 pub good_lines : (lines : List (List ℕ)) → AreGood lines → length lines ≤ 262144
     → words_of_lines lines ≡ Ok (filter_map word_of_line lines)
-good_lines lines good few =
-    let whole = take_all 262144 lines few in
-    let none : first_bad (take most_lines lines) ≡ None =
-    ap first_bad whole ∙ none_bad lines good in
-    rw (none, few_enough (length lines) few) refl
+good_lines lines good few = simp (take_all, none_bad, few_enough)
 
 pub words_of-read : (bytes : List ℕ) (line : ℕ) (words : List ℕ) → HasWords bytes [] line words
     → words_of bytes ≡ Ok words
@@ -103,9 +98,7 @@ words_of-read bytes line words has =
 
 some_of : (b : Bool) (byte : ℕ) (lines : List (List ℕ))
     → 0 < length (if b then [] ∷ lines else onto_first byte lines)
-some_of true byte lines = omega arith
-some_of false byte [] = omega arith
-some_of false byte (line ∷ lines) = omega arith
+some_of b byte lines = grind arith
 
 some_line : (left : List ℕ) → 0 < length left → 0 < length (cut_lines left)
 some_line [] some = absurd (omega (arith, some))
@@ -150,8 +143,7 @@ front_with : (most : ℕ) (good : List (List ℕ)) (line : List ℕ) (others : L
 front_with zero good line others few = absurd (omega (arith, few))
 front_with (suc most) [] line others few = (take most others, refl)
 front_with (suc most) (first ∷ good) line others few =
-    let (tail, is) = front_with most good line others (omega (arith, few)) in
-    (tail, ap (λ ls. first ∷ ls) is)
+    grind (arith, (front_with most good line others (omega (arith, few))))
 
 bad_word : (o : Option ℕ) → o ≡ None → is_none o ≡ true
 bad_word o none = rw none refl
@@ -159,8 +151,7 @@ bad_word o none = rw none refl
 bad_lines : (lines good : List (List ℕ)) (line : List ℕ) (tail : List (List ℕ)) (n : ℕ)
     → take most_lines lines ≡ good ++ line ∷ tail → AreGood good → is_bad line ≡ true
     → length good ≡ n → words_of_lines lines ≡ Err (BadLine (n + 1))
-bad_lines lines good line tail n is goods bad count =
-    ap (words_unless_bad lines) (ap first_bad is ∙ bad_at good line tail goods bad ∙ ap Some count)
+bad_lines lines good line tail n is goods bad count = grind (arith, bad_at)
 
 pub words_of-bad : (bytes left next : List ℕ) (line : ℕ) (words first : List ℕ)
     → HasWords bytes left line words → cut_lines left ≡ first ∷ cut_lines next

@@ -2,9 +2,9 @@
 use Rattle.std.proofs.lemmas.Bool.Decides.{nat_tests}
 use Rattle.std.specs.Result.{MatchResult}
 use Rattle.hex.specs.declared.error.FromHexError.TheVariants.{OddLength, InvalidStringLength}
-use Rattle.std.proofs.Common.{◌≡◌, ◌≢◌, ℕ, ◌+◌, ◌*◌, ◌/◌, ◌%◌, eqb, Bool, true, false, List, []}
-use Rattle.std.proofs.Common.{◌∷◌, length, Option, Some, None, Result, Ok, Err, refl, sym, ap, ◌∙◌}
-use Rattle.std.proofs.Common.{arith, if◌then◌else◌}
+use Rattle.std.proofs.Common.{◌≡◌, ℕ, ◌+◌, ◌*◌, ◌/◌, ◌%◌, eqb, Bool, true, false, List, []}
+use Rattle.std.proofs.Common.{◌∷◌, length, Option, Some, None, Result, Ok, Err, refl}
+use Rattle.std.proofs.Common.{arith, if◌then◌else◌, rules}
 use Rattle.std.specs.Int.{from_be_bytes, w32}
 use Rattle.std.specs.Option.{option_and_then}
 use Rattle.hex.specs.declared.error.FromHexError.{FromHexError}
@@ -35,12 +35,7 @@ pair_step : (front high low i : ℕ) (digits : List ℕ) (h l : Option ℕ)
     (rest : Result (List ℕ) FromHexError) → ((n : ℕ) → value_onto n digits ≡ value_of n rest)
     → option_and_then (λ x. option_and_then (λ y. value_onto (16 * (16 * front + x) + y) digits) l)
     h ≡ value_of front (after_pair high low i h l rest)
-pair_step front high low i digits None l rest more = refl
-pair_step front high low i digits (Some x) None rest more = refl
-pair_step front high low i digits (Some x) (Some y) (Err e) more = more (16 * (16 * front + x) + y)
-pair_step front high low i digits (Some x) (Some y) (Ok bytes) more =
-    let joined : 16 * (16 * front + x) + y ≡ 256 * front + (x * 16 + y) = omega arith in
-    more (16 * (16 * front + x) + y) ∙ ap (λ n. Some (total n bytes)) joined
+pair_step front high low i digits h l rest more = grind arith
 
 pub value_onto-pairs : (front i : ℕ) (digits : List ℕ) → length digits % 2 ≡ 0
     → value_onto front digits ≡ value_of front (decode_pairs i digits)
@@ -64,22 +59,13 @@ choose : (t u v : Bool) (x : Option ℕ) (r : Result (List ℕ) FromHexError) (d
     → (v ≡ true → (t ≡ false) × (u ≡ true)) → (t ≡ false → u ≡ true → v ≡ true)
     → (v ≡ true → x ≡ value_of 0 r)
     → (if v then x else None) ≡ value_of 0 (if t then Err d else if u then r else Err e)
-choose true u true x r d e apart both same = let (p, q) = apart refl in cc
-choose true u false x r d e apart both same = refl
-choose false true true x r d e apart both same = same refl
-choose false true false x r d e apart both same = let p = both refl refl in cc
-choose false false true x r d e apart both same = let (p, q) = apart refl in cc
-choose false false false x r d e apart both same = refl
+choose t u v x r d e apart both same = grind arith
 
 even_half : (n : ℕ) → eqb n 8 ≡ true → (eqb (n % 2) 1 ≡ false) × (eqb (n / 2) 4 ≡ true)
 even_half n is = let eight : n ≡ 8 = grind (arith, nat_tests) in rw eight (refl, refl)
 
 eight_again : (n : ℕ) → eqb (n % 2) 1 ≡ false → eqb (n / 2) 4 ≡ true → eqb n 8 ≡ true
-eight_again n even half =
-    let h : n / 2 ≡ 4 = grind (arith, nat_tests) in
-    let o : n % 2 ≢ 1 = grind (arith, nat_tests) in
-    let eight : n ≡ 8 = omega (arith, h, o) in
-    rw eight refl
+eight_again n even half = grind arith
 
 even_eight : (n : ℕ) → eqb n 8 ≡ true → n % 2 ≡ 0
 even_eight n is = let eight : n ≡ 8 = grind (arith, nat_tests) in rw eight refl
@@ -101,14 +87,10 @@ pub value_of-written : (r : Result (List ℕ) FromHexError) (out : List ℕ) (u 
     ≡ 4 → MatchResult r (λ bytes. (◌≡◌ {A = DecodeResult} (Ok u) (Ok tt)) × (out ≡ bytes))
     (λ e. ◌≡◌ {A = DecodeResult} (Ok u) (Err e))
     → value_of 0 r ≡ Some (from_be_bytes w32 out)
-value_of-written (Ok bytes) out u four written = rw (sym written.1) (ap Some (total-be out four))
-value_of-written (Err e) out u four written =
-    let p : ◌≡◌ {A = DecodeResult} (Ok u) (Err e) = written in cc
+value_of-written r out u four written = search (rules, total-be)
 
 pub value_of-refused : (r : Result (List ℕ) FromHexError) (out : List ℕ) (d : FromHexError)
     → MatchResult r (λ bytes. (◌≡◌ {A = DecodeResult} (Err d) (Ok tt)) × (out ≡ bytes))
     (λ e. ◌≡◌ {A = DecodeResult} (Err d) (Err e))
     → value_of 0 r ≡ None
-value_of-refused (Ok bytes) out d written =
-    let p : ◌≡◌ {A = DecodeResult} (Err d) (Ok tt) = written.0 in cc
-value_of-refused (Err e) out d written = refl
+value_of-refused r out d written = grind arith

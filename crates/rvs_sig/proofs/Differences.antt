@@ -1,6 +1,6 @@
 -- The first place at which two lists differ.
-use Rattle.std.proofs.Common.{◌≡◌, ◌≢◌, ℕ, ◌+◌, ◌<◌, ◌≤◌, suc, Bool, true, false, cond, not, eq-eqb}
-use Rattle.std.proofs.Common.{List, [], ◌∷◌, length, take, get_or, Some, None, refl, sym, ap, ◌∙◌}
+use Rattle.std.proofs.Common.{◌≡◌, ◌≢◌, ℕ, ◌+◌, ◌<◌, ◌≤◌, Bool, true, false, cond, eq-eqb}
+use Rattle.std.proofs.Common.{List, [], ◌∷◌, length, take, get_or, Some, None, refl, sym, ◌∙◌}
 use Rattle.std.proofs.Common.{arith, nat_lt}
 use Rattle.std.specs.List.{zip, position, position_from, position_or_len}
 use Rattle.std.proofs.lemmas.Iterator.Adapters.{position_from-zero}
@@ -15,8 +15,7 @@ length-zip : (left right : List ℕ) → length left ≡ length right
     → length (zip left right) ≡ length left
 length-zip [] right same = refl
 length-zip (l ∷ left) [] same = absurd (omega (arith, same))
-length-zip (l ∷ left) (r ∷ right) same =
-    ap (λ n. suc n) (length-zip left right (omega (arith, same)))
+length-zip (l ∷ left) (r ∷ right) same = simp (length-zip left right (omega (arith, same)))
 
 none_below : (i n : ℕ) → cond (nat_lt i n) (Some i) None ≡ None → n ≤ i
 none_below i n none = grind (arith, nat_tests)
@@ -30,21 +29,16 @@ unlike l r different = grind (arith, nat_tests)
 at_zip : (left right : List ℕ) (k : ℕ) (answer : Bool) → length left ≡ length right
     → k < length left → differ (get_or (zip left right) k (0, 0)) ≡ answer
     → differ (get_or left k 0, get_or right k 0) ≡ answer
-at_zip left right k answer same within is =
-    ap differ (sym (get_or-zip left right k (0, 0) within (omega (arith, same, within)))) ∙ is
+at_zip left right k answer same within is = grind (arith, get_or-zip)
 
 position_from-same : (i : ℕ) (words : List ℕ)
     → position_from differ i (zip words words) ≡ None
 position_from-same i [] = refl
-position_from-same i (w ∷ words) =
-    let more = position_from differ (i + 1) (zip words words) in
-    ap (λ (same : Bool). cond (not same) (Some i) more) (eq-eqb w w refl)
-    ∙ position_from-same (i + 1) words
+position_from-same i (w ∷ words) = simp (eq-eqb, (position_from-same (i + 1) words))
 
 -- no place of a list differs from itself
 pub differs_nowhere : (words : List ℕ) → position differ (zip words words) ≡ None
-differs_nowhere words =
-    position_from-zero differ (zip words words) ∙ position_from-same 0 words
+differs_nowhere words = simp (position_from-zero, position_from-same)
 
 -- lists of one length of which no place differs are the same
 pub agrees : (left right : List ℕ) → length left ≡ length right

@@ -3,7 +3,6 @@ use Rattle.std.proofs.Common.{◌≡◌, ℕ, ◌+◌, ◌*◌, ◌/◌, ◌%◌
 use Rattle.std.proofs.Common.{List, [], ◌∷◌, ◌++◌, length, map, get_or, Some, Ok, refl, sym, ap}
 use Rattle.std.proofs.Common.{◌∙◌, arith}
 use Rattle.std.specs.List.{filter_map, cons_option}
-use Rattle.std.specs.Option.{option_and_then}
 use Rattle.std.specs.Str.{IsAscii}
 use Rattle.std.proofs.Math.Nat.{div-div-eq-div-mul}
 use Rattle.std.proofs.lemmas.List.{append_assoc}
@@ -11,7 +10,7 @@ use Rattle.std.proofs.lemmas.Bool.Decides.{nat_tests}
 use Rattle.std.proofs.lemmas.Str.Ascii.{IsAscii-nil, IsAscii-cons}
 use Rattle.hex.specs.Hex.{hex_digit_value}
 use Rattle.rvs_base.specs.Number.{hex_digit_of, hex_digit_at, hex_word_of}
-use Rattle.rvs_base.specs.Lines.{cut_lines, onto_first}
+use Rattle.rvs_base.specs.Lines.{cut_lines}
 use Rattle.rvs_sig.specs.Words.{value_onto, word_of_line, text_of_words, words_of_lines, words_of}
 use Rattle.rvs_sig.proofs.Counting.{good_lines, good_word, is_bad}
 
@@ -32,16 +31,11 @@ whole n = omega arith
 
 -- one digit more
 digit_step : (word k : ℕ) → 16 * (word / 16 ^ suc k) + word / 16 ^ k % 16 ≡ word / 16 ^ k
-digit_step word k =
-    let power : 16 ^ suc k ≡ 16 ^ k * 16 = grind arith in
-    let quotient : word / 16 ^ suc k ≡ word / 16 ^ k / 16 =
-    ap (λ n. word / n) power ∙ sym (div-div-eq-div-mul word (16 ^ k) 16) in
-    rw quotient (whole (word / 16 ^ k))
+digit_step word k = grind (arith, div-div-eq-div-mul, whole)
 
 onto_digit : (front d : ℕ) (rest : List ℕ) → d < 16
     → value_onto front (hex_digit_of d ∷ rest) ≡ value_onto (16 * front + d) rest
-onto_digit front d rest small = ap
-    (λ o. option_and_then (λ value. value_onto (16 * front + value) rest) o) (digit_value d small)
+onto_digit front d rest small = simp digit_value
 
 abbrev places_from : ℕ → List ℕ
 places_from zero = 0 ∷ []
@@ -49,15 +43,8 @@ places_from (suc k) = suc k ∷ places_from k
 
 value_onto-digits : (word k : ℕ)
     → value_onto (word / 16 ^ suc k) (map (hex_digit_at word) (places_from k)) ≡ Some word
-value_onto-digits word zero =
-    let one : word / 16 ^ 0 ≡ word = omega arith in
-    onto_digit (word / 16 ^ 1) (word / 16 ^ 0 % 16) [] (is_digit (word / 16 ^ 0))
-    ∙ ap Some (digit_step word 0 ∙ one)
-value_onto-digits word (suc k) =
-    let rest = map (hex_digit_at word) (places_from k) in
-    onto_digit (word / 16 ^ suc (suc k)) (word / 16 ^ suc k % 16) rest
-    (is_digit (word / 16 ^ suc k)) ∙ ap (λ n. value_onto n rest) (digit_step word (suc k))
-    ∙ value_onto-digits word k
+value_onto-digits word zero = grind (arith, onto_digit, is_digit, digit_step)
+value_onto-digits word (suc k) = simp (onto_digit, is_digit, digit_step, (value_onto-digits word k))
 
 word_of_line-printed : (word : ℕ) → word < 2 ^ 32 → word_of_line (hex_word_of word) ≡ Some word
 unfolding hex_word_of
@@ -70,9 +57,8 @@ cut_lines-digits : (word : ℕ) (places rest : List ℕ)
     → cut_lines (map (hex_digit_at word) places ++ 10 ∷ rest)
     ≡ map (hex_digit_at word) places ∷ cut_lines rest
 cut_lines-digits word [] rest = refl
-cut_lines-digits word (place ∷ places) rest = rw
-    (no_feed (word / 16 ^ place % 16) (is_digit (word / 16 ^ place)))
-    (ap (onto_first (hex_digit_at word place)) (cut_lines-digits word places rest))
+cut_lines-digits word (place ∷ places) rest =
+    simp (no_feed, is_digit, (cut_lines-digits word places rest))
 
 cut_lines-word : (word : ℕ) (rest : List ℕ)
     → cut_lines (hex_word_of word ++ 10 ∷ rest) ≡ hex_word_of word ∷ cut_lines rest
@@ -123,10 +109,8 @@ words_of-text words are few =
 ascii_digits : (word : ℕ) (places rest : List ℕ) → IsAscii rest
     → IsAscii (map (hex_digit_at word) places ++ rest)
 ascii_digits word [] rest ascii = ascii
-ascii_digits word (place ∷ places) rest ascii = IsAscii-cons (hex_digit_at word place)
-    (map (hex_digit_at word) places ++ rest)
-    (below_128 (word / 16 ^ place % 16) (is_digit (word / 16 ^ place)))
-    (ascii_digits word places rest ascii)
+ascii_digits word (place ∷ places) rest ascii =
+    grind (arith, below_128, is_digit, (ascii_digits word places rest ascii))
 
 ascii_word : (word : ℕ) (rest : List ℕ) → IsAscii rest → IsAscii (hex_word_of word ++ rest)
 unfolding hex_word_of

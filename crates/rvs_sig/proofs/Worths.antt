@@ -1,7 +1,7 @@
 -- Eight digits by what they are worth.
-use Rattle.std.proofs.Common.{◌≡◌, ℕ, ◌+◌, ◌*◌, ◌^◌, ◌<◌, ◌≤◌, eqb, Bool, true, false, cond}
+use Rattle.std.proofs.Common.{◌≡◌, ℕ, ◌+◌, ◌*◌, ◌^◌, ◌<◌, ◌≤◌, eqb, Bool, false}
 use Rattle.std.proofs.Common.{List, [], ◌∷◌, ◌++◌, length, take, drop, ◌-◌, get_or, Option, Some}
-use Rattle.std.proofs.Common.{None, Ok, Err, refl, sym, ap, subst, below_more, ◌∙◌, arith}
+use Rattle.std.proofs.Common.{Ok, Err, refl, ap, below_more, ◌∙◌, arith}
 use Rattle.std.proofs.Common.{unwrap_or}
 use Rattle.std.specs.Prelude.{slice_set}
 use Rattle.std.specs.Option.{option_and_then}
@@ -10,7 +10,7 @@ use Rattle.std.proofs.lemmas.List.{take_rest, length-set, get_or-set_same, get_o
 use Rattle.std.proofs.lemmas.Bool.Decides.{nat_tests}
 use Rattle.hex.specs.declared.error.FromHexError.{FromHexError}
 use Rattle.hex.specs.Hex.{hex_digit_value, decode_pairs, decode_sized}
-use Rattle.rvs_base.specs.Lines.{cut_lines, onto_first}
+use Rattle.rvs_base.specs.Lines.{cut_lines}
 use Rattle.rvs_sig.specs.Digits.{worth_of}
 use Rattle.rvs_sig.specs.Words.{value_onto, HasLine}
 use Rattle.rvs_sig.proofs.Decoding.{DecodeResult, after_pair}
@@ -19,15 +19,12 @@ pub worth_low : (byte : ℕ) → worth_of byte ≤ 2 ^ 32
 worth_low byte = grind (arith, nat_tests)
 
 digit_of-worth : (o : Option ℕ) → unwrap_or o (2 ^ 32) < 2 ^ 32 → o ≡ Some (unwrap_or o (2 ^ 32))
-digit_of-worth None small = absurd (omega (arith, small))
-digit_of-worth (Some value) small = refl
+digit_of-worth o small = grind arith
 
 -- one digit more
 onto_digit : (front digit : ℕ) (digits : List ℕ) → worth_of digit < 2 ^ 32
     → value_onto front (digit ∷ digits) ≡ value_onto (16 * front + worth_of digit) digits
-onto_digit front digit digits small =
-    ap (option_and_then (λ value. value_onto (16 * front + value) digits))
-    (digit_of-worth (hex_digit_value digit) small)
+onto_digit front digit digits small = grind (arith, digit_of-worth)
 
 abbrev pub four_worth : ℕ → ℕ → ℕ → ℕ → ℕ → ℕ
 four_worth front a b c d =
@@ -36,31 +33,19 @@ four_worth front a b c d =
 onto_four : (front a b c d : ℕ) (digits : List ℕ) → worth_of a < 2 ^ 32 → worth_of b < 2 ^ 32
     → worth_of c < 2 ^ 32 → worth_of d < 2 ^ 32
     → value_onto front (a ∷ b ∷ c ∷ d ∷ digits) ≡ value_onto (four_worth front a b c d) digits
-onto_four front a b c d digits small_a small_b small_c small_d =
-    onto_digit front a (b ∷ c ∷ d ∷ digits) small_a
-    ∙ onto_digit (16 * front + worth_of a) b (c ∷ d ∷ digits) small_b
-    ∙ onto_digit (16 * (16 * front + worth_of a) + worth_of b) c (d ∷ digits) small_c
-    ∙ onto_digit (16 * (16 * (16 * front + worth_of a) + worth_of b) + worth_of c) d digits small_d
+onto_four front a b c d digits small_a small_b small_c small_d = simp onto_digit
 
 -- a digit is no line feed
 feed_spells : (b : Bool) (front digit n : ℕ) (digits : List ℕ) → eqb digit 10 ≡ b
     → value_onto front (digit ∷ digits) ≡ Some n → b ≡ false
-feed_spells false front digit n digits test is = refl
-feed_spells true front digit n digits test is =
-    let ten : digit ≡ 10 = grind (arith, nat_tests) in
-    let none : None ≡ Some n = ap (λ x. value_onto front (x ∷ digits)) (sym ten) ∙ is in
-    absurd cc
+feed_spells b front digit n digits test is = grind arith
 
 cut_more : (o : Option ℕ) (digit : ℕ) (digits rest : List ℕ) (front n : ℕ) → eqb digit 10 ≡ false
     → ((m : ℕ) → value_onto m digits ≡ Some n
     → cut_lines (digits ++ 10 ∷ rest) ≡ digits ∷ cut_lines rest)
     → option_and_then (λ value. value_onto (16 * front + value) digits) o ≡ Some n
     → cut_lines (digit ∷ (digits ++ 10 ∷ rest)) ≡ (digit ∷ digits) ∷ cut_lines rest
-cut_more None digit digits rest front n feed more none = absurd cc
-cut_more (Some value) digit digits rest front n feed more some =
-    ap (λ b. cond b ([] ∷ cut_lines (digits ++ 10 ∷ rest))
-    (onto_first digit (cut_lines (digits ++ 10 ∷ rest)))) feed
-    ∙ ap (onto_first digit) (more (16 * front + value) some)
+cut_more o digit digits rest front n feed more none = grind arith
 
 cut_digits : (digits rest : List ℕ) (front n : ℕ) → value_onto front digits ≡ Some n
     → cut_lines (digits ++ 10 ∷ rest) ≡ digits ∷ cut_lines rest
@@ -76,20 +61,14 @@ one_decoded : (byte : ℕ) (out : List ℕ) (u : Unit {0}) (o : Option ℕ)
     (λ bytes. (◌≡◌ {A = DecodeResult} (Ok u) (Ok tt)) × (out ≡ bytes))
     (λ e. ◌≡◌ {A = DecodeResult} (Ok u) (Err e))
     → get_or out 0 0 ≡ unwrap_or o (2 ^ 32)
-one_decoded byte out u None written =
-    let p : ◌≡◌ {A = DecodeResult} (Ok u) (Err _) = written in absurd cc
-one_decoded byte out u (Some value) written =
-    let same : 0 * 16 + value ≡ value = omega arith in
-    ap (λ xs. get_or xs 0 0) written.1 ∙ same
+one_decoded byte out u o written = grind arith
 
 none_decoded : (byte : ℕ) (out : List ℕ) (d : FromHexError) (o : Option ℕ)
     → MatchResult (after_pair 48 byte 0 (Some 0) o (Ok []))
     (λ bytes. (◌≡◌ {A = DecodeResult} (Err d) (Ok tt)) × (out ≡ bytes))
     (λ e. ◌≡◌ {A = DecodeResult} (Err d) (Err e))
     → 2 ^ 32 ≡ unwrap_or o (2 ^ 32)
-none_decoded byte out d None refused = refl
-none_decoded byte out d (Some value) refused =
-    let p : ◌≡◌ {A = DecodeResult} (Err d) (Ok tt) = refused.0 in absurd cc
+none_decoded byte out d o refused = grind arith
 
 pub worth_decoded : (byte : ℕ) (out : List ℕ) (u : Unit {0})
     → MatchResult (decode_sized (48 ∷ byte ∷ []) 1)
@@ -111,9 +90,7 @@ split_nine : (text : List ℕ) → 9 ≤ length text
     → text ≡ get_or text 0 0 ∷ get_or text 1 0 ∷ get_or text 2 0 ∷ get_or text 3 0 ∷ get_or text 4 0
     ∷ get_or text 5 0 ∷ get_or text 6 0 ∷ get_or text 7 0 ∷ get_or text 8 0
     ∷ take (length text - 9) (drop 9 text)
-split_nine (a ∷ b ∷ c ∷ d ∷ e ∷ f ∷ g ∷ h ∷ i ∷ rest) long =
-    ap (λ bs. a ∷ b ∷ c ∷ d ∷ e ∷ f ∷ g ∷ h ∷ i ∷ bs)
-    (sym (take_rest (a ∷ b ∷ c ∷ d ∷ e ∷ f ∷ g ∷ h ∷ i ∷ rest) 9))
+split_nine (a ∷ b ∷ c ∷ d ∷ e ∷ f ∷ g ∷ h ∷ i ∷ rest) long = simp take_rest
 split_nine ([]) long = absurd (omega arith)
 split_nine (_ ∷ []) long = absurd (omega arith)
 split_nine (_ ∷ _ ∷ []) long = absurd (omega arith)
@@ -151,12 +128,7 @@ line_spelled a b c d e f g h n rest sum small =
 pub eight_spelled : (text : List ℕ) (n : ℕ) → 9 ≤ length text → get_or text 8 0 ≡ 10
     → 65536 * four_from 0 text + four_from 4 text ≡ n → n < 2 ^ 32
     → HasLine text (Some n) (take (length text - 9) (drop 9 text))
-eight_spelled text n long end sum small =
-    let rest = take (length text - 9) (drop 9 text) in
-    let at : ℕ → ℕ = λ k. get_or text k 0 in
-    subst (λ t. HasLine t (Some n) rest) (sym (split_nine text long ∙ ap (λ x. at 0 ∷ at 1 ∷ at 2
-    ∷ at 3 ∷ at 4 ∷ at 5 ∷ at 6 ∷ at 7 ∷ x ∷ rest) end))
-    (line_spelled (at 0) (at 1) (at 2) (at 3) (at 4) (at 5) (at 6) (at 7) n rest sum small)
+eight_spelled text n long end sum small = grind (arith, split_nine, line_spelled)
 
 -- a table whose first entries are right
 pub record Filled (worths : List ℕ) (count : ℕ) : Type 0 where
@@ -165,12 +137,5 @@ pub record Filled (worths : List ℕ) (count : ℕ) : Type 0 where
 
 pub filled_more : (worths : List ℕ) (count worth : ℕ) → Filled worths count → count < 256
     → worth ≡ worth_of count → Filled (slice_set worths count worth) (count + 1)
-filled_more worths count worth filled within is = record {
-  whole = length-set worths count worth ∙ filled.whole;
-  each = λ byte below. below_more (λ n. get_or (slice_set worths count worth) n 0 ≡ worth_of n)
-      count (λ n before. get_or-set_other worths count n worth 0
-      (λ same. omega (arith, before, same))
-      ∙ filled.each n before)
-      (get_or-set_same worths count worth 0 (omega (arith, within, filled.whole)) ∙ is)
-      byte below;
-}
+filled_more worths count worth filled within is =
+    grind (arith, length-set, below_more, get_or-set_other, get_or-set_same)

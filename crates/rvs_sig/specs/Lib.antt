@@ -1,3 +1,4 @@
 pub mod Digits
+pub mod Printed
 pub mod Verdicts
 pub mod Words

@@ -3,6 +3,7 @@
 
 mod comparison;
 mod digits;
+mod refusing;
 mod words;
 
 pub use comparison::{Verdict, compare};

@@ -1,11 +1,13 @@
 // The words of a signature file.
-ghost use Rattle.std.specs.Prelude.{◌≡◌, ◌≤◌, ◌<◌, ◌⊎◌, [], IfErr, IfOk, MatchOption, length};
+ghost use Rattle.std.specs.Prelude.{◌≡◌, ◌≤◌, ◌<◌, [], IfOk, MatchOption, length};
+ghost use Rattle.rvs_fault.specs.Answers.{Answers};
 ghost use Rattle.rvs_sig.specs.Digits.{AreWorths};
 ghost use Rattle.rvs_sig.specs.Words.{HasLine, digits_of_line, text_of_words, word_of_line};
 ghost use Rattle.rvs_sig.specs.Words.{most_lines, words_of};
 
 use crate::digits::{digits_line, word_digits, worths};
 use rvs_base::{Items, NoMemory, Text, first_line};
+use rvs_fault::Fault;
 use std::alloc::Global;
 
 const MOST_LINES: u32 = 262_144;
@@ -20,18 +22,6 @@ pub enum SigRefusal {
     },
     /// More than 262,144 lines, none of the first so many malformed.
     TooLong,
-    /// The allocator refused.
-    NoMemory,
-}
-
-impl From<NoMemory> for SigRefusal {
-    ghost use Rattle.rvs_sig.specs.declared.words.SigRefusal.TheVariants.{NoMemory};
-
-    ghost from_gives = { λ _ refusal. refusal ≡ NoMemory };
-
-    fn from(_: NoMemory) -> Self {
-        SigRefusal::NoMemory
-    }
 }
 
 /// Reads the words of a file: one a line, as eight hexadecimal digits of either case. A carriage
@@ -39,11 +29,9 @@ impl From<NoMemory> for SigRefusal {
 ///
 /// # Errors
 ///
-/// [`SigRefusal`].
-pub fn read_words(alloc: Global, bytes: &[u8]) -> Result<Items<u32>, SigRefusal>
-    ensures words { IfOk result (λ words. words_of bytes.now ≡ Ok words) }
-    ensures refused { IfErr result
-        (λ refusal. (refusal ≡ SigRefusal.NoMemory) ⊎ (words_of bytes.now ≡ Err refusal)) }
+/// [`SigRefusal`], or want of memory.
+pub fn read_words(alloc: Global, bytes: &[u8]) -> Result<Items<u32>, Fault<SigRefusal>>
+    ensures { Answers result (words_of bytes.now) }
 {
     let worths = worths();
     let mut words = Items::new(alloc);
@@ -51,11 +39,11 @@ pub fn read_words(alloc: Global, bytes: &[u8]) -> Result<Items<u32>, SigRefusal>
     let mut line = 0;
     while let Some((word, rest)) = next_line(&worths, left) {
         if line == MOST_LINES {
-            return Err(SigRefusal::TooLong);
+            return Err(Fault::Refused(SigRefusal::TooLong));
         }
         line += 1;
         match word {
-            None => return Err(SigRefusal::BadLine { line }),
+            None => return Err(Fault::Refused(SigRefusal::BadLine { line })),
             Some(word) => words.push(word)?,
         }
         left = rest;

@@ -6,13 +6,13 @@ use Rattle.std.proofs.lemmas.List.{get_or-map, length-map}
 use Rattle.std.proofs.lemmas.Option.{slice_get_read, slice_get-map}
 use Rattle.rvs_insn.specs.Isa.{Isa}
 use Rattle.rvs_expr.proofs.OneLanguage.{numbers_alone, registers_alone}
-use Rattle.rvs_cgf.specs.Groups.{Meaning, means, says, Point as PointOf, Label as LabelOf}
-use Rattle.rvs_cgf.specs.GroupView.{meaning_view, point_view, label_view}
-use Rattle.rvs_cgf.specs.Valid.{IsValid}
-use Rattle.rvs_cgf.specs.declared.group.Kind.{Kind}
-use Rattle.rvs_cgf.specs.declared.group.Point.{Point}
-use Rattle.rvs_cgf.specs.declared.group.Label.{Label}
-use Rattle.rvs_cgf.proofs.Saying.{said_by}
+use Rattle.rvs_points.specs.Points.{Meaning, means, says, Point as PointOf, Label as LabelOf}
+use Rattle.rvs_points.specs.PointView.{meaning_view, point_view, label_view}
+use Rattle.rvs_points.specs.Valid.{IsValid}
+use Rattle.rvs_points.specs.declared.group.Kind.{Kind}
+use Rattle.rvs_points.specs.declared.group.Point.{Point}
+use Rattle.rvs_points.specs.declared.group.Label.{Label}
+use Rattle.rvs_points.proofs.Saying.{said_by}
 use Rattle.rvs_solver.specs.Point.{is_valid}
 use Rattle.rvs_solver.specs.Solving.{first_meant, first_of_point, first_at, bound_meant, bound_at}
 use Rattle.rvs_solver.specs.Solving.{SolvesAs, IsLeastAt, IsSolvableAs}
@@ -52,9 +52,6 @@ pub first_there : (isa : Isa) (l : LabelOf) (k : ℕ) (p : PointOf) (s : Option 
     → slice_get l.points k ≡ Some p → s ≡ first_meant isa l.ops p.kind p.meaning
     → s ≡ first_at isa l k
 first_there isa l k p s at is = is ∙ sym (ap (option_and_then (first_of_point isa l)) at)
-
-some_is : {A : Type 0} (x y : A) → Some x ≡ Some y → x ≡ y
-some_is x y h = cc
 
 pub none_there : (isa : Isa) (l : LabelOf) (k : ℕ) (p : PointOf) (s : Option Solved)
     → slice_get l.points k ≡ Some p

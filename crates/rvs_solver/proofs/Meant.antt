@@ -4,8 +4,8 @@ use Rattle.std.specs.Prelude.{option_map, IfSome, IfNone, Result, IfOk}
 use Rattle.rvs_base.specs.declared.memory_refusal.NoMemory.{NoMemory}
 use Rattle.rvs_insn.specs.declared.op.Op.{Op}
 use Rattle.rvs_insn.specs.Isa.{Isa}
-use Rattle.rvs_cgf.specs.Groups.{Meaning, Point}
-use Rattle.rvs_cgf.specs.declared.group.Kind.{Kind}
+use Rattle.rvs_points.specs.Points.{Meaning, Point}
+use Rattle.rvs_points.specs.declared.group.Kind.{Kind}
 use Rattle.rvs_solver.specs.declared.solved.Solved.{Solved}
 use Rattle.rvs_solver.specs.declared.solved.Solved.TheVariants.{One}
 use Rattle.rvs_solver.specs.Choices.{ChoiceValue}

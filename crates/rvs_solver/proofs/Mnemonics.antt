@@ -7,8 +7,8 @@ use Rattle.rvs_insn.specs.Isa.{Isa}
 use Rattle.rvs_insn.specs.Table.{row}
 use Rattle.std.proofs.lemmas.Bool.{eq-eqb}
 use Rattle.rvs_facts.specs.Mnemonics.{number, is_same}
-use Rattle.rvs_cgf.specs.declared.group.Kind.TheVariants.{Mnemonic}
-use Rattle.rvs_cgf.specs.Groups.{op_is}
+use Rattle.rvs_points.specs.declared.group.Kind.TheVariants.{Mnemonic}
+use Rattle.rvs_points.specs.Points.{op_is}
 use Rattle.rvs_solver.specs.Choices.{choices}
 use Rattle.rvs_solver.specs.Point.{hits}
 use Rattle.rvs_solver.specs.First.{first_choice}

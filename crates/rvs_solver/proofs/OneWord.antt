@@ -6,8 +6,8 @@ use Rattle.std.proofs.lemmas.Bool.{eqb-true, eq-eqb}
 use Rattle.rvs_insn.specs.declared.op.Op.{Op}
 use Rattle.rvs_insn.specs.Isa.{Isa}
 use Rattle.rvs_insn.specs.Table.{row}
-use Rattle.rvs_cgf.specs.declared.group.Kind.{Kind}
-use Rattle.rvs_cgf.specs.Groups.{Meaning}
+use Rattle.rvs_points.specs.declared.group.Kind.{Kind}
+use Rattle.rvs_points.specs.Points.{Meaning}
 use Rattle.rvs_solver.specs.Choices.{ChoiceValue, is_kept, registers}
 use Rattle.rvs_solver.specs.Choices.{with_registers, choices}
 use Rattle.rvs_solver.specs.Point.{hits, constants_of}

@@ -7,9 +7,9 @@ use Rattle.rvs_insn.specs.declared.op.Format.TheVariants.{System}
 use Rattle.rvs_insn.specs.declared.op.Op.{Op}
 use Rattle.rvs_insn.specs.Isa.{Isa}
 use Rattle.rvs_insn.specs.Table.{row}
-use Rattle.rvs_cgf.specs.declared.group.Kind.{Kind}
-use Rattle.rvs_cgf.specs.Groups.{Meaning}
-use Rattle.rvs_cgf.specs.Hits.{steps_of}
+use Rattle.rvs_points.specs.declared.group.Kind.{Kind}
+use Rattle.rvs_points.specs.Points.{Meaning}
+use Rattle.rvs_points.specs.Hits.{steps_of}
 use Rattle.rvs_solver.specs.Datasets.{rds, rs1s, rs2s}
 use Rattle.rvs_solver.specs.Choices.{choices}
 use Rattle.rvs_solver.specs.Point.{hits, is_valid, is_on_values}
@@ -46,12 +46,6 @@ register_call spec op form a b d kind meaning o valid not_values =
     (λ x y z. find (hits kind meaning) (flat_map (at_rd spec.memory op (row op).form y z) x))
     ∙ sym (register_is spec op kind meaning
     (ap not_system (sym o.form_is) ∙ has_choice form o.not_none) valid not_values)
-
-no_cost : (x y z : ℕ) → x * (y * (z * 0)) ≤ 0
-no_cost x y z = omega arith
-
-one_cost : (x y z : ℕ) → x * (y * (z * 1)) ≡ x * (y * z)
-one_cost x y z = ap (λ k. x * (y * k)) (omega arith)
 
 bound_is : (spec : Isa) (form : Format) → not_system form ≡ true
     → register_bound spec form ≡ length

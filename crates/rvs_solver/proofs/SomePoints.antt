@@ -6,8 +6,8 @@ use Rattle.rvs_insn.specs.declared.op.Format.TheVariants.{R}
 use Rattle.rvs_insn.specs.declared.op.Op.TheVariants.{Add, AmoaddW}
 use Rattle.rvs_insn.specs.Isa.{Isa}
 use Rattle.rvs_insn.specs.Memory.{Memory, usual_memory}
-use Rattle.rvs_cgf.specs.declared.group.Kind.TheVariants.{Rd, ValComb}
-use Rattle.rvs_cgf.specs.Groups.{reg_is, nums}
+use Rattle.rvs_points.specs.declared.group.Kind.TheVariants.{Rd, ValComb}
+use Rattle.rvs_points.specs.Points.{reg_is, nums}
 use Rattle.rvs_solver.specs.Truth.{holds, constants_in}
 use Rattle.rvs_solver.specs.Datasets.{dataset, with_number, is_between, is_there, around}
 use Rattle.rvs_solver.specs.Datasets.{rds, rs1s, rs2s}

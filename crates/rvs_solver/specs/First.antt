@@ -3,8 +3,8 @@ use Rattle.std.specs.Prelude.{◌≡◌, ◌<◌, Bool, true, false, ℕ, ℤ, L
 use Rattle.std.specs.Prelude.{slice_get, Contains}
 use Rattle.rvs_insn.specs.declared.op.Op.{Op}
 use Rattle.rvs_insn.specs.Isa.{Isa}
-use Rattle.rvs_cgf.specs.declared.group.Kind.{Kind}
-use Rattle.rvs_cgf.specs.Groups.{Meaning}
+use Rattle.rvs_points.specs.declared.group.Kind.{Kind}
+use Rattle.rvs_points.specs.Points.{Meaning}
 use Rattle.rvs_solver.specs.Choices.{ChoiceValue, choices}
 use Rattle.rvs_solver.specs.Point.{hits, constants_of}
 

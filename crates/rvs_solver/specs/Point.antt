@@ -1,9 +1,9 @@
 -- When a choice hits a point.
 use Rattle.std.specs.Prelude.{ℤ, Bool, true, false, List, []}
 use Rattle.rvs_expr.specs.Only.{only_numbers, only_registers}
-use Rattle.rvs_cgf.specs.Groups.{Meaning, op_is, reg_is, regs, nums, window}
-use Rattle.rvs_cgf.specs.Hits.{is_meant}
-use Rattle.rvs_cgf.specs.declared.group.Kind.{Kind}
+use Rattle.rvs_points.specs.Points.{Meaning, op_is, reg_is, regs, nums, window}
+use Rattle.rvs_points.specs.Hits.{is_meant}
+use Rattle.rvs_points.specs.declared.group.Kind.{Kind}
 use Rattle.rvs_solver.specs.Truth.{constants_in}
 use Rattle.rvs_solver.specs.Choices.{ChoiceValue, table_of}
 

@@ -1,8 +1,8 @@
 -- What a walk through registers goes through.
 use Rattle.std.specs.Prelude.{ℕ, ◌*◌, Bool, List, length, Option}
 use Rattle.rvs_insn.specs.Table.{row}
-use Rattle.rvs_cgf.specs.GroupView.{meaning_view}
-use Rattle.rvs_cgf.specs.Hits.{steps_of}
+use Rattle.rvs_points.specs.PointView.{meaning_view}
+use Rattle.rvs_points.specs.Hits.{steps_of}
 use Rattle.rvs_solver.specs.declared.registers.RegisterSearch.{RegisterSearch}
 use Rattle.rvs_solver.specs.Choices.{ChoiceValue}
 use Rattle.rvs_solver.specs.Point.{hits}

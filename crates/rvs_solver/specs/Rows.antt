@@ -11,7 +11,7 @@ use Rattle.rvs_expr_text.specs.declared.lexeme.RegName.TheVariants.{Rd, Rs1}
 use Rattle.rvs_expr.specs.declared.formula.Comparison.TheVariants.{Equal}
 use Rattle.rvs_expr.specs.Typed.{Num, literal, named, product, pair, reg_pair, register, Formula}
 use Rattle.rvs_expr.specs.Typed.{numbers, registers, conjunction}
-use Rattle.rvs_cgf.specs.Groups.{Meaning, regs, nums}
+use Rattle.rvs_points.specs.Points.{Meaning, regs, nums}
 use Rattle.rvs_solver.specs.Bound.{bound}
 
 pub record Row : Type 0 where

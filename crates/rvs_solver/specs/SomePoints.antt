@@ -6,8 +6,8 @@ use Rattle.rvs_insn.specs.Isa.{Isa}
 use Rattle.rvs_insn.specs.Memory.{usual_memory}
 use Rattle.rvs_expr_text.specs.declared.lexeme.NumName.TheVariants.{Rs1Val}
 use Rattle.rvs_expr.specs.Typed.{Formula}
-use Rattle.rvs_cgf.specs.declared.group.Kind.TheVariants.{Rd, ValComb}
-use Rattle.rvs_cgf.specs.Groups.{reg_is, nums}
+use Rattle.rvs_points.specs.declared.group.Kind.TheVariants.{Rd, ValComb}
+use Rattle.rvs_points.specs.Points.{reg_is, nums}
 use Rattle.rvs_solver.specs.Choices.{ChoiceValue}
 use Rattle.rvs_solver.specs.First.{first_choice}
 use Rattle.rvs_solver.specs.Rows.{is}

@@ -4,9 +4,9 @@ ghost use Rattle.std.specs.Prelude.{IfOk, IfNone, IfSome, find, flat_map, sum_by
 ghost use Rattle.rvs_cross.specs.CrossView.{cross_view};
 ghost use Rattle.rvs_cross.specs.Sequences.{first_sequence};
 ghost use Rattle.rvs_cross.specs.Sequences as sequences;
-ghost use Rattle.rvs_cgf.specs.Groups.{window};
-ghost use Rattle.rvs_cgf.specs.GroupView.{meaning_view, point_view, label_view};
-ghost use Rattle.rvs_cgf.specs.Valid.{IsValid};
+ghost use Rattle.rvs_points.specs.Points.{window};
+ghost use Rattle.rvs_points.specs.PointView.{meaning_view, point_view, label_view};
+ghost use Rattle.rvs_points.specs.Valid.{IsValid};
 ghost use Rattle.rvs_solver.specs.Choices.{choices};
 ghost use Rattle.rvs_solver.specs.Point.{hits, is_valid, is_on_values, constants_of};
 ghost use Rattle.rvs_solver.specs.First.{first_choice, Solvable, HasOneWordEach};
@@ -21,10 +21,10 @@ use crate::registers::RegisterSearch;
 use crate::solved::Solved;
 use crate::values::first_value;
 use rvs_base::NoMemory;
-use rvs_cgf::{Kind, Label, Meaning, Point};
 use rvs_cross::{Cross, solve_cross};
 use rvs_expr::Steps;
 use rvs_insn::{Format, IsaSpec, Op, format};
+use rvs_points::{Kind, Label, Meaning, Point};
 use std::alloc::Global;
 use std::sync::ledger::Ledger;
 

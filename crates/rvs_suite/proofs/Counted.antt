@@ -14,9 +14,9 @@ use Rattle.rvs_cross.specs.Windows.{matches}
 use Rattle.rvs_cgf.specs.Groups.{Meaning, op_is, reg_is, regs, nums, window, Label, Point}
 use Rattle.rvs_log.specs.Entries.{Entry}
 use Rattle.rvs_log.specs.Logs.{as_entry}
-use Rattle.rvs_count.specs.Runs.{suffixes}
-use Rattle.rvs_count.specs.Counting.{begins, count, count_for, decoded, hits}
-use Rattle.rvs_count.proofs.Matching.{length_matches}
+use Rattle.rvs_index.specs.Runs.{suffixes}
+use Rattle.rvs_index.specs.Counting.{begins, count, count_for, decoded, hits}
+use Rattle.rvs_index.proofs.Matching.{length_matches}
 use Rattle.rvs_test_text.specs.Claim.{IsOnly, insns_of}
 use Rattle.rvs_test.specs.Claimed.{HitsAlone, HitsAs}
 

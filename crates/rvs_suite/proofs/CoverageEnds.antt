@@ -7,7 +7,7 @@ use Rattle.rvs_plan.specs.declared.stop.Stop.{Stop}
 use Rattle.rvs_plan.specs.declared.status.Status.TheVariants.{Done}
 use Rattle.rvs_log.specs.Entries.{Entry, entries_of}
 use Rattle.rvs_cgf.specs.Groups.{Label}
-use Rattle.rvs_count.specs.Counting.{Aim, aims_of, count, kept}
+use Rattle.rvs_index.specs.Counting.{Aim, aims_of, count, kept}
 use Rattle.rvs_coverage.specs.declared.covering.Covered.{Covered}
 use Rattle.rvs_log.specs.Logs.{log_of, as_entry}
 use Rattle.rvs_count.specs.Report.{report_of}

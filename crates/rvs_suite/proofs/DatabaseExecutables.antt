@@ -1,126 +1,62 @@
 -- That the executables of a database's tests are there when all were judged, and run as these do.
 use Rattle.std.proofs.Common.{◌≡◌, ◌≢◌, ◌≤◌, ◌<◌, ◌+◌, ◌^◌, ℕ, zero, suc, Bool, true, false, List}
-use Rattle.std.proofs.Common.{[], ◌∷◌, length, Contains, IsTrue, Option, Some, None, Result, Ok}
-use Rattle.std.proofs.Common.{Err, bytes_eq, codes, decimal, refl, sym, ap, subst, ◌∙◌, arith}
-use Rattle.std.proofs.Common.{rules}
+use Rattle.std.proofs.Common.{[], ◌∷◌, length, Contains, IsTrue, Option, Some, Result, Ok}
+use Rattle.std.proofs.Common.{Err}
+use Rattle.std.proofs.Common.{bytes_eq, codes, decimal, refl, sym, ap, subst, ◌∙◌}
+use Rattle.std.proofs.Common.{arith}
 use Rattle.std.specs.Prelude.{⊤}
 use Rattle.std.proofs.lemmas.Fmt.{decimal_injective}
 use Rattle.std.proofs.lemmas.List.Elements.{Contains-append_right}
 use Rattle.rvs_base.specs.Host.{Files}
-use Rattle.rvs_base.specs.declared.host.DeviceRun.{DeviceRun}
-use Rattle.rvs_plan.specs.Inputs.{part_end}
 use Rattle.rvs_plan.specs.declared.stop.Stop.{Stop}
 use Rattle.rvs_parts.specs.Parts.{PartValue}
 use Rattle.rvs_insn.specs.Memory.{Memory, HasRoom}
 use Rattle.rvs_insn.specs.Isa.{Isa}
-use Rattle.rvs_machine.specs.Image.{ImageValue}
 use Rattle.rvs_elf.specs.Executable.{image_of_elf}
 use Rattle.rvs_elf.specs.Laws.{with_marks}
 use Rattle.rvs_elf.specs.Written.{elf_of}
 use Rattle.rvs_elf.proofs.ReadBack.{reads_back, runs_alike}
 use Rattle.rvs_select.specs.declared.database.Entry.{Entry}
 use Rattle.rvs_inputs.specs.DatabaseInput.{database_in, marked, marked_from, marked_in}
-use Rattle.rvs_suite.specs.DatabaseLeft.{made_in, Trial, with_trial, with_trials, AreTrialsOf}
 use Rattle.rvs_inputs.specs.DeviceInput.{device_in}
 use Rattle.rvs_inputs.specs.GroupFiles.{and_then}
 use Rattle.rvs_suite.specs.JudgingDatabase.{database_inputs_in, chosen_in, HasExecutable, IsNoneOf}
-use Rattle.rvs_reference.specs.Reference.{test_limit}
-use Rattle.rvs_run.specs.RunDatabase.{Given, chosen, chosen_if, made_by, made_found, elf_found}
-use Rattle.rvs_run.specs.RunDatabase.{DatabaseInputs}
+use Rattle.rvs_run.specs.RunDatabase.{chosen, chosen_if, DatabaseInputs}
+use Rattle.rvs_suite.specs.RunLeft.{Trial, with_trial, with_trials, IsTrialOf, AreTrialsOf}
 use Rattle.rvs_run.specs.RunTests.{Bench, asks_elf}
 use Rattle.rvs_inputs.specs.Specification.{said_in}
 use Rattle.rvs_generate.specs.TestFiles.{files_at}
-use Rattle.rvs_reference.specs.TestRun.{image_found, found_end, then_found, run_found, limit_of}
-use Rattle.rvs_run.specs.declared.judging.Made.{Made}
-use Rattle.rvs_reference.specs.declared.test_run.Run.{Run}
+use Rattle.rvs_generate.specs.Tests.{to_read}
+use Rattle.rvs_generate.specs.declared.sources.Given.{Given}
+use Rattle.rvs_generate.specs.declared.sources.Source.TheVariants.{Read}
 use Rattle.rvs_suite.proofs.DatabaseReads.{holds-tests}
-use Rattle.rvs_suite.proofs.Executables.{kept-executable, there-executable}
+use Rattle.rvs_suite.proofs.Executables.{there-executable}
 use Rattle.rvs_suite.proofs.FoundImages.{sound}
-use Rattle.rvs_suite.proofs.Meanings.{then-ok, found-of, says-of}
+use Rattle.rvs_suite.proofs.KeptTrials.{WasMade, was-made, kept-trials}
+use Rattle.rvs_suite.proofs.Meanings.{then-ok, says-of}
 use Rattle.rvs_isa.proofs.Rooms.{accepted_have_room}
 use Rattle.rvs_generate.proofs.Paths.{same-ending, passed-by, other-bytes, reference-not-executable}
 use Rattle.rvs_generate.proofs.Paths.{device-not-executable}
 use Rattle.rvs_words.specs.declared.command.RunDatabaseArguments.{RunDatabaseArguments}
 
--- ---- what was made of a test
-record WasMade (bench : Bench) (given : Given) (made : Made) : Type 0 where
-  bytes : List ℕ
-  run : Run
-  image : ImageValue
-  found : made_found bench given bytes ≡ Ok made
-  is : made ≡ made_by bench given bytes run
-  spelt : image_found bench.isa given.name bytes ≡ Ok image
-
-abbrev imaged : ImageValue → Result ImageValue (List ℕ)
-imaged image = Ok image
-
-image-of : (found : Result ImageValue (List ℕ)) (next : ImageValue → Result Run (List ℕ))
-    (bench : Bench) (given : Given) (bytes : List ℕ) (made : Made)
-    → then_found (then_found found next) (λ run. Ok (made_by bench given bytes run)) ≡ Ok made
-    → (image : ImageValue) × (run : Run) × (found ≡ Ok image)
-    × (made ≡ made_by bench given bytes run)
-image-of found next bench given bytes made is = grind arith
-
-was-made : (files : Files) (bench : Bench) (given : Given) (made : Made)
-    → made_in files bench given ≡ Ok made → WasMade bench given made
-was-made files bench given made is =
-    let t = then-ok (part_end test_limit given.name given.name test_limit (files given.name))
-    (λ bytes. found_end (made_found bench given bytes)) made is in
-    let found = found-of (made_found bench given t.0) made t.2 in
-    let i = image-of (image_found bench.isa given.name t.0)
-    (run_found given.name (limit_of None given.name t.0) bench.isa) bench given t.0 made found in
-    record {
-      bytes = t.0;
-      run = i.1;
-      image = i.0;
-      found = found;
-      is = i.3;
-      spelt = i.2;
-    }
-
 -- ---- the files that a trial leaves
 abbrev executable_name : Bench → Given → List ℕ
 executable_name bench given = (files_at bench.work given.place given.name).executable
 
-left-of : (bench : Bench) (given : Given) (run : DeviceRun) (bytes : List ℕ) (ran : Run)
-    (files : Files) (other : List ℕ) → IsNoneOf bench given other
-    → with_trial (record { made = made_by bench given bytes ran; run = run }) files other
-    ≡ files other
-left-of bench given run bytes ran files other apart =
-    grind (arith, passed-by, bytes_eq, other-bytes, kept-executable)
-
-kept-trial : (bench : Bench) (files : Files) (given : Given) (t : Trial) (other : List ℕ)
-    → made_in files bench given ≡ Ok t.made → IsNoneOf bench given other
-    → with_trial t files other ≡ files other
-kept-trial bench files given t other made apart = search (rules, was-made, left-of)
-
-kept-trials : (bench : Bench) (files : Files) (gs : List Given) (ts : List Trial)
-    (other : List ℕ) → AreTrialsOf bench files gs ts
-    → ((g : Given) → Contains gs g → IsNoneOf bench g other)
-    → with_trials ts files other ≡ files other
-kept-trials bench files [] [] other each apart = refl
-kept-trials bench files [] (t ∷ ts) other each apart = absurd each
-kept-trials bench files (g ∷ gs) [] other each apart = absurd each
-kept-trials bench files (g ∷ gs) (t ∷ ts) other each apart =
-    kept-trials bench (with_trial t files) gs ts other each.1
-    (λ h there. apart h (Contains-append_right (g ∷ []) gs h there))
-    ∙ kept-trial bench files g t other each.0.made (apart g (0, omega arith, refl))
-
 -- the executable of a test is there behind its own trial
 there-behind : (bench : Bench) (files : Files) (given : Given) (t : Trial) → IsTrue (asks_elf bench)
-    → (w : WasMade bench given t.made)
+    → t.source ≡ Read given → (w : WasMade files bench given t.made)
     → with_trial t files (executable_name bench given) ≡ Some (elf_of w.image)
-there-behind bench files given t wanted w =
+there-behind bench files given t wanted source w =
     let names = files_at bench.work given.place given.name in
     let place = decimal given.place in
-    ap (λ (m : Made). with_trial (record { made = m; run = t.run }) files names.executable) w.is
+    (λ i. with_trial (record { source = source i; made = w.is i; run = t.run }) files
+    names.executable)
     ∙ passed-by (bytes_eq names.executable names.device) _ _ (other-bytes names.executable
     names.device (λ same. device-not-executable bench.work place place (sym same)))
     ∙ passed-by (bytes_eq names.executable names.reference) _ _ (other-bytes names.executable
     names.reference (λ same. reference-not-executable bench.work place place (sym same)))
-    ∙ there-executable (asks_elf bench) names.executable
-    (elf_found (image_found bench.isa given.name w.bytes)) files wanted
-    ∙ ap (λ (r : Result ImageValue (List ℕ)). Some (elf_found r)) w.spelt
+    ∙ there-executable (asks_elf bench) names.executable (elf_of w.image) files wanted
 
 -- ---- the places of tests
 abbrev AreApart : List Given → Type 0
@@ -236,12 +172,13 @@ none-of bench g h apart low low' = record {
       device-not-executable bench.work (decimal h.place) (decimal g.place) (sym same);
 }
 
-has-executable : (bench : Bench) → HasRoom bench.isa.memory → (files files' : Files) (given : Given) (t : Trial)
-    → IsTrue (asks_elf bench) → made_in files bench given ≡ Ok t.made
+has-executable : (bench : Bench) → HasRoom bench.isa.memory → (files files' : Files)
+    (given : Given) (t : Trial)
+    → IsTrue (asks_elf bench) → IsTrialOf bench files (Read given) t
     → files' (executable_name bench given)
     ≡ with_trial t files (executable_name bench given) → HasExecutable bench files' given
-has-executable bench room files files' given t wanted made kept =
-    let w = was-made files bench given t.made made in
+has-executable bench room files files' given t wanted is kept =
+    let w = was-made files bench given t.made is.made in
     let (regions, same) = sound bench.isa given.name w.bytes w.image w.spelt in
     let own : HasRoom w.image.memory = subst HasRoom (sym same) room in
     let back = reads_back w.image own regions in
@@ -251,23 +188,26 @@ has-executable bench room files files' given t wanted made kept =
       made_of = w.found;
       image = w.image;
       spelt = w.spelt;
-      there = kept ∙ there-behind bench files given t wanted w;
+      there = kept ∙ there-behind bench files given t wanted is.source_is w;
       again = with_marks w.image;
       read = subst
           (λ (m : Memory). image_of_elf m (elf_of w.image) ≡ Ok (with_marks w.image)) same back;
       alike = runs_alike w.image (with_marks w.image) own regions back;
     }
 
-pub all-there : (bench : Bench) → HasRoom bench.isa.memory → (files : Files) (gs : List Given) (ts : List Trial)
-    → AreTrialsOf bench files gs ts → AreApart gs
+pub all-there : (bench : Bench) → HasRoom bench.isa.memory → (files : Files) (gs : List Given)
+    (ts : List Trial)
+    → AreTrialsOf bench files (to_read gs) ts → AreApart gs
     → ((g : Given) → Contains gs g → g.place < 2 ^ 64) → IsTrue (asks_elf bench)
     → (g : Given) → Contains gs g → HasExecutable bench (with_trials ts files) g
-all-there bench room files [] ts each apart low wanted g (i, within, at) = grind arith
+all-there bench room files [] ts each apart low wanted g (i, within, at) =
+    absurd (omega (arith, within))
 all-there bench room files (h ∷ gs) [] each apart low wanted g there = absurd each
 all-there bench room files (h ∷ gs) (t ∷ ts) each apart low wanted g (zero, within, at) =
     subst (λ (x : Given). HasExecutable bench (with_trials (t ∷ ts) files) x) at
-    (has-executable bench room files (with_trials (t ∷ ts) files) h t wanted each.0.made
-    (kept-trials bench (with_trial t files) gs ts (executable_name bench h) each.1
+    (has-executable bench room files (with_trials (t ∷ ts) files) h t wanted each.0
+    (kept-trials (λ (g : Given). Read g) bench (with_trial t files) gs ts (executable_name bench h)
+    each.1
     (λ other there. none-of bench h other (apart.0 other there) (low h (0, omega arith, refl))
     (low other (Contains-append_right (h ∷ []) gs other there)))))
 all-there bench room files (h ∷ gs) (t ∷ ts) each apart low wanted g (suc i, within, at) =

@@ -50,13 +50,7 @@ pub finds-selection : (files : Files) (asked : SelectArguments)
     → Finds files (reads_selection asked) (selection_in files asked)
 finds-selection files asked = grind (arith, finds-and_then, finds-specification, finds-database)
 
-pub finds-marked : (files : Files) (part : Option PartValue) (isa : Isa) (name : List ℕ)
-    → Finds files (marked_file part isa name) (marked_in files part isa name)
-finds-marked files part isa name = grind (arith, finds-and_then, finds-database)
-
 -- ---- the inputs of a run over a database
-abbrev inputs-with : Isa → List Entry → Told → Result DatabaseInputs Stop
-inputs-with isa entries told = Ok (record { isa = isa; entries = entries; device = told })
 
 pub finds-database-inputs : (files : Files) (asked : RunDatabaseArguments)
     → Finds files (database_inputs asked) (database_inputs_in files asked)

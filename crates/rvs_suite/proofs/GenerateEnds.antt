@@ -232,7 +232,8 @@ rooms {call} files asked r inputs given =
     (answers-generate files asked r)
     (λ is. untouched (ran-command r) files r.told tt (inr is))
     (λ text refused files' other. generate-spares r.ran files files' asked other r.told r.asks
-    (λ i test accepted. let no : Err (why.Refused text) ≡ Ok i = sym refused ∙ accepted in absurd cc))
+    (λ i test accepted. let no : Err (why.Refused text) ≡ Ok i =
+    sym refused ∙ accepted in absurd cc))
 
 pub makes : {call : Call} (files : Files) (asked : GenerateArguments)
     → RunsOn call files (Generate asked) → generating.Generates call files asked

@@ -71,10 +71,6 @@ section_bytes : (name : List ℕ) (limit : ℕ) (r : Rest)
     → Holds BytesFirst (file.section name limit r)
 section_bytes name limit r = grind (arith, goes_any, lines_bytes)
 
-either_image : {E : Type 0} (b : Bool) (image : ImageValue) (e : E) → HasBytes image
-    → Holds HasBytes (cond b (Ok image) (Err e))
-either_image h = grind arith
-
 whole_bytes : (n : ℕ) (image : ImageValue) (o : Option (List ℕ × Rest)) → HasBytes image
     → Holds HasBytes (file.whole_with n image o)
 whole_bytes n image o h = grind arith
@@ -153,10 +149,6 @@ lines_below text env (r ∷ rs) p =
 image_bytes : (memory : Memory) (ss : Table) (rs : List Reading)
     → HasBytes (image_of memory ss rs)
 image_bytes memory ss rs = grind (arith, lines_below)
-
-regions_bytes : (image : ImageValue) → HasBytes image
-    → Holds HasBytes (region_checked (if_image image))
-regions_bytes image h = grind arith
 
 there_bytes : (o : Option (List ℕ)) (image : ImageValue) → HasBytes image
     → Holds HasBytes (if_all_there o image)

@@ -45,8 +45,6 @@ mod DatabaseExecutables
 mod DatabasePasses
 mod DatabaseReads
 mod SelectEnds
-mod DatabaseRuns
-mod DatabaseSpares
 mod DatabaseEnds
 mod InAll
 mod WordLimits
@@ -55,3 +53,6 @@ mod ReportReads
 mod ReportPasses
 mod ReportEnds
 mod TestedInputs
+mod KeptTrials
+mod SparingTests
+mod Trials

@@ -99,9 +99,6 @@ is_end answer.Done = true
 is_end answer.NotPassed = true
 is_end _ = false
 
-stops_are_none : (reason : Stop) → is_end (status_of reason) ≡ false
-stops_are_none reason = grind arith
-
 -- it isn't one that no end has
 no-end : (end status : Status) → (end ≡ answer.Done) ⊎ (end ≡ answer.NotPassed) → end ≡ status
     → is_end status ≡ false → ⊥
@@ -123,10 +120,6 @@ unfaulted-line status err err' result c never = grind arith
 abbrev pub Ended : Absence → World → World → Type 0
 Ended absence old new = NoneFaulted absence old new ⊎ FirstAbsence absence old new
     ⊎ ((failing : Failing) × FirstFault absence failing old new)
-
-has-ended : (absence : Absence) (old new : World) (result : Result Finish Stop)
-    → NoFault absence old new result → Ended absence old new
-has-ended absence old new result u = grind arith
 
 pub with-ended : {A B : Type 0} (absence : Absence) (old new : World) (result : Result Finish Stop)
     → NoFault absence old new result → A ⊎ B → A ⊎ (B × Ended absence old new)

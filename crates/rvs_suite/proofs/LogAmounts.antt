@@ -7,8 +7,8 @@ use Rattle.rvs_log.specs.Grammar.{Reading, Says, Writes, Nothing}
 use Rattle.rvs_log.specs.Lines.{whole_from, tail_from, last_line}
 use Rattle.rvs_log.specs.Entries.{Entry, Heard, hear, entries_in, entries_of}
 use Rattle.rvs_cgf.specs.Groups.{Meaning}
-use Rattle.rvs_count.specs.Counting.{Aim, count, count_for, kept}
-use Rattle.rvs_count.specs.Runs.{suffixes}
+use Rattle.rvs_index.specs.Counting.{Aim, count, count_for, kept}
+use Rattle.rvs_index.specs.Runs.{suffixes}
 use Rattle.rvs_base.specs.declared.asked.Window.{Window}
 
 last-few : (front : List ℕ) → length (last_line front) ≤ length front
@@ -20,7 +20,8 @@ lines-from front bs = length (whole_from front bs) + length (last_line (tail_fro
 
 abbrev lines-by : Bool → List ℕ → ℕ → List ℕ → ℕ
 lines-by t front b bs =
-    length {A = List ℕ} (elim t [ true ↦ front ∷ whole_from [] bs | false ↦ whole_from (front ++ b ∷ []) bs ])
+    length {A = List ℕ}
+    (elim t [ true ↦ front ∷ whole_from [] bs | false ↦ whole_from (front ++ b ∷ []) bs ])
     + length {A = List ℕ} (last_line
     (elim t [ true ↦ tail_from [] bs | false ↦ tail_from (front ++ b ∷ []) bs ]))
 

@@ -8,9 +8,9 @@ use Rattle.rvs_facts.specs.Facts.{facts_of}
 use Rattle.rvs_cross.specs.Cross.{Place}
 use Rattle.rvs_log.specs.Entries.{Entry}
 use Rattle.rvs_cgf.specs.Groups.{Meaning, window, Label, Point}
-use Rattle.rvs_cgf.specs.Hits.{has_op, is_meant}
-use Rattle.rvs_cgf.proofs.Distinct.{and-right}
-use Rattle.rvs_count.specs.Counting.{Aim, aims_of, count, count_for, hits, hits_insn, kept}
+use Rattle.rvs_points.specs.Hits.{has_op, is_meant}
+use Rattle.rvs_points.proofs.Distinct.{and-right}
+use Rattle.rvs_index.specs.Counting.{Aim, aims_of, count, count_for, hits, hits_insn, kept}
 use Rattle.rvs_count.specs.Report.{report_of}
 use Rattle.rvs_base.specs.declared.asked.Window.{Window}
 
@@ -24,9 +24,6 @@ no-window a (Some i) v1 v2 ps is hit =
     let none : is_meant a.point.kind a.point.meaning i.op (facts_of i v1 v2) ≡ false =
     ap (λ (m : Meaning). is_meant a.point.kind m i.op (facts_of i v1 v2)) is in
     let both : true ≡ false = sym meant ∙ none in cc
-
-counts-one : (test : Entry → Bool) (e : Entry) → test e ≡ true → count_by test (e ∷ []) ≡ 1
-counts-one test e hit = grind (arith, sum_by-cons)
 
 counted-for : (m : Meaning) (a : Aim) (e : Entry) → a.point.meaning ≡ m → hits a e ≡ true
     → count_for m (e ∷ []) a ≡ 1

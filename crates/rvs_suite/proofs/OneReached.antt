@@ -5,7 +5,7 @@ use Rattle.std.specs.Prelude.{◌==◌, count_by}
 use Rattle.std.proofs.lemmas.List.Sums.{sum_by-cons}
 use Rattle.rvs_log.specs.Entries.{Entry, entries_of}
 use Rattle.rvs_cgf.specs.Groups.{Meaning, Label, Point}
-use Rattle.rvs_count.specs.Counting.{Aim, aims_of, hits}
+use Rattle.rvs_index.specs.Counting.{Aim, aims_of, hits}
 use Rattle.rvs_prop.specs.Acts.{Act, acts_of}
 use Rattle.rvs_prop.specs.Reach.{reached, reaches, saves_register, target_of}
 use Rattle.rvs_prop.specs.Report.{report_of}
@@ -14,10 +14,6 @@ use Rattle.rvs_prop.proofs.Listing.{acts_are_entries}
 use Rattle.rvs_prop.proofs.Stored.{reaches_next}
 use Rattle.rvs_suite.specs.Propagating.{IsFirst}
 use Rattle.rvs_suite.proofs.OneCount.{one-aim}
-
-counts-first : (test : Entry → Bool) (e f : Entry) → test e ≡ true → test f ≡ false
-    → count_by test (e ∷ f ∷ []) ≡ 1
-counts-first test e f hit miss = grind (arith, sum_by-cons)
 
 -- the number of hits, by the point's meaning
 hits-first : (m : Meaning) (a : Aim) (e f : Entry) → a.point.meaning ≡ m → hits a e ≡ true

@@ -133,7 +133,8 @@ reference-promise r files asked t is =
 
 pub normalize-promise : {call : Call} → RanTelling call → normalizing.Promise call
 normalize-promise r files asked t is =
-    normalizes files asked (record { ran = (plain r (ap asks_progress is)).ran; told = t; asks = is })
+    normalizes files asked
+    (record { ran = (plain r (ap asks_progress is)).ran; told = t; asks = is })
 
 pub generate-promise : {call : Call} → RanTelling call → generating.Promise call
 generate-promise r files asked t is =
@@ -153,7 +154,8 @@ run-promise r files asked t is =
 
 pub database-promise : {call : Call} → RanTelling call → database.Promise call
 database-promise r files asked t is =
-    judges_database files asked (record { ran = (plain r (ap asks_progress is)).ran; told = t; asks = is })
+    judges_database files asked
+    (record { ran = (plain r (ap asks_progress is)).ran; told = t; asks = is })
 
 pub report-promise : {call : Call} → RanTelling call → reporting.Promise call
 report-promise r files asked t is =

@@ -13,7 +13,7 @@ use Rattle.rvs_cgf.specs.Groups.{Label}
 use Rattle.std.proofs.lemmas.List.{length-map}
 use Rattle.rvs_log.specs.Entries.{Entry}
 use Rattle.rvs_cgf.specs.Groups.{Meaning}
-use Rattle.rvs_count.specs.Counting.{Aim, aims_of, hits}
+use Rattle.rvs_index.specs.Counting.{Aim, aims_of, hits}
 use Rattle.rvs_prop.specs.Acts.{Act, acts_of}
 use Rattle.rvs_prop.proofs.Listing.{acts_are_entries}
 use Rattle.rvs_coverage.specs.declared.propagating.Traced.{Traced}

@@ -1,6 +1,7 @@
 -- What every call of `reference` promises.
-use Rattle.std.proofs.Common.{◌≡◌, ℕ, Bool, false, List, length, Option, Some, Result}
-use Rattle.std.proofs.Common.{Ok, if◌then◌else◌, sym, ap, ◌∙◌, arith, rules}
+use Rattle.std.proofs.Common.{◌≡◌, ℕ, Bool, false, List, length, Option, Some}
+use Rattle.std.proofs.Common.{Result, Ok, if◌then◌else◌}
+use Rattle.std.proofs.Common.{sym, ap, ◌∙◌, arith, rules}
 use Rattle.rvs_base.specs.Host.{Files, with_file}
 use Rattle.rvs_base.specs.Sink.{appended}
 use Rattle.rvs_plan.specs.Plan.{Plan, followed, ◌>>=◌}
@@ -15,12 +16,12 @@ use Rattle.rvs_sig.specs.Words.{text_of_words}
 use Rattle.rvs_suite.specs.Answered.{OnDone}
 use Rattle.rvs_suite.specs.Call.{Call, world_of}
 use Rattle.rvs_inputs.specs.GroupFiles.{and_then}
-use Rattle.rvs_suite.specs.Halting.{BothHalt, NamesText, TextHalts, with_log}
+use Rattle.rvs_suite.specs.Halting.{BothHalt, TextHalts, with_log}
 use Rattle.rvs_reference.specs.Reference.{trial, records}
 use Rattle.rvs_suite.specs.Referencing as referencing
 use Rattle.rvs_suite.specs.Referencing.{trial_in, run_in}
 use Rattle.rvs_inputs.specs.Specification.{specification}
-use Rattle.rvs_reference.specs.TestRun.{accepted, found_end, test_found}
+use Rattle.rvs_reference.specs.TestRun.{NamesText, accepted, found_end, test_found}
 use Rattle.rvs_reference.specs.TestRun.{text_found}
 use Rattle.rvs_reference.specs.TestTexts.{ran_line}
 use Rattle.rvs_reference.specs.declared.test_run.Run.{Run}

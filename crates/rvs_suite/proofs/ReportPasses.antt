@@ -88,26 +88,6 @@ spells reference left is =
     let pass = by-left reference left is in
     passing.pass-spells (of-words reference) status status pass.0 left pass.1
 
--- and back
-same-verdict : (device reference : List ℕ) (n : ℕ) (v : Verdict)
-    → judged.compared status v ≡ told.Pass n status
-    → (compared device reference v).state ≡ state.Pass n
-same-verdict device reference n v e = grind arith
-
-same-words : (reference : List ℕ) (n : ℕ) (read : Result (List ℕ) SigRefusal)
-    → judged.spelt status reference read ≡ told.Pass n status
-    → (spelt reference read).state ≡ state.Pass n
-same-words reference n read e = grind arith
-
-same-tests : (reference : List ℕ) (n : ℕ) (read : Result (List ℕ) SigRefusal) (long bare : Bool)
-    → (if long then told.TooLong status
-    else (if bare then told.NoSignature status else judged.spelt status reference read))
-    ≡ told.Pass n status
-    → (if long then found_open state.TooLong
-    else (if bare then found_open state.NoSignature else spelt reference read)).state
-    ≡ state.Pass n
-same-tests reference n read long bare e = grind arith
-
 same-left : (reference : List ℕ) (n : ℕ) (left : Option (List ℕ))
     → verdict_on status reference left ≡ told.Pass n status
     → (found_on reference left).state ≡ state.Pass n
@@ -255,22 +235,6 @@ record HasLabels (files : Files) (asked : ReportArguments) (inputs : Inputs) (pa
     0 where
   counts : List ℕ
   are : page.labels ≡ all_shown_in files inputs.isa asked.work counts inputs.groups
-
-with-logs : (files : Files) (asked : ReportArguments) (inputs : Inputs) (page : Page)
-    (device : Told) (covered : Result Covered Stop)
-    → and_then covered (λ known. Ok (page_with asked inputs device known
-    (all_shown_in files inputs.isa asked.work known.counts inputs.groups))) ≡ Ok page
-    → HasLabels files asked inputs page
-with-logs files asked inputs page device covered e = grind arith
-
-with-device : (files : Files) (asked : ReportArguments) (inputs : Inputs) (page : Page)
-    (device : Result Told Stop)
-    → and_then device (λ told_device. and_then (logs_in files file_name
-    (counts_more asked.windows inputs.groups) (uncounted inputs.groups) asked.logs) (λ known.
-    Ok (page_with asked inputs told_device known
-    (all_shown_in files inputs.isa asked.work known.counts inputs.groups)))) ≡ Ok page
-    → HasLabels files asked inputs page
-with-device files asked inputs page device e = grind arith
 
 -- no label lacks room where there is a page
 with-rooms : (files : Files) (asked : ReportArguments) (inputs : Inputs) (page : Page)

@@ -36,8 +36,6 @@ use Rattle.rvs_coverage.proofs.LogReads.{reads-logs, finds-logs}
 use Rattle.rvs_suite.proofs.RunReads.{finds-device}
 
 -- ---- the parts of the plan
-abbrev gives_label : List ℕ → List ℕ → Isa → Label → Found → Plan ShownLabel
-gives_label counts text isa l found = gives (shown_label found text counts (claims_of isa l) l)
 
 abbrev gives_page : ReportArguments → Inputs → Told → Covered → List ShownLabel → Plan Page
 gives_page asked inputs device covered labels = gives (page_with asked inputs device covered labels)
@@ -103,13 +101,6 @@ reads-page asked =
     (reads-all inputs.isa asked.work [] covered.counts inputs.groups) (λ labels. tt))))
 
 -- ---- what it finds
-finds-if : (files : Files) (like : Likeness) (next : Plan Found) (found : Found)
-    → Finds files next (Ok found) → Finds files (if_like like next) (Ok (by_likeness like found))
-finds-if files like next found is = grind arith
-
-found-test : (files : Files) (isa : Isa) (work : List ℕ) (test : Test)
-    → Finds files (finds_test isa work test) (Ok (finding_in files isa work test))
-found-test files isa work test = grind (arith, finds-if)
 
 found-by : (files : Files) (isa : Isa) (work counts : List ℕ) (l : Label) (text : Option (List ℕ))
     → Finds files (shows_by isa work counts l text) (Ok (shown_by files isa work counts l text))

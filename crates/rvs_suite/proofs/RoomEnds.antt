@@ -16,10 +16,10 @@ use Rattle.rvs_plan.specs.declared.status.Status.TheVariants as answer
 use Rattle.rvs_plan.specs.declared.status.Finish.{Finish}
 use Rattle.rvs_insn.specs.Isa.{Isa}
 use Rattle.rvs_insn.specs.Memory.{HasRoom, usual_memory}
-use Rattle.rvs_cgf.specs.Keys.{is_label_name}
+use Rattle.rvs_points.specs.Keys.{is_label_name}
 use Rattle.rvs_cgf.specs.Groups.{Label, refusal_at, at_label}
-use Rattle.rvs_cgf.specs.declared.refusal.CgfKind.TheVariants.{NoRoom}
-use Rattle.rvs_cgf.specs.Valid.{IsValid}
+use Rattle.rvs_points.specs.declared.refusal.CgfKind.TheVariants.{NoRoom}
+use Rattle.rvs_points.specs.Valid.{IsValid}
 use Rattle.rvs_test_text.proofs.Fits.{fit_regions, usual_fits}
 use Rattle.rvs_test.specs.Made.{has_room}
 use Rattle.rvs_test.proofs.Solvings.{cases_few, cases_ready}

@@ -1,13 +1,11 @@
 -- What every call of `run` promises.
-use Rattle.std.proofs.Common.{◌≡◌, ◌⊎◌, inl, inr, ℕ, true, is_some, List, [], ◌∷◌, ◌++◌, length}
-use Rattle.std.proofs.Common.{option_map, Option, Some, Result, Ok, Err, refl, sym, ap, subst}
+use Rattle.std.proofs.Common.{◌≡◌, ◌⊎◌, inl, inr, ℕ, List, [], ◌∷◌, length}
+use Rattle.std.proofs.Common.{Some, Result, Ok, Err, refl, sym, ap, subst}
 use Rattle.std.proofs.Common.{◌∙◌, Contains, IsTrue, arith, rules}
-use Rattle.std.proofs.lemmas.List.{append_cancel_left}
 use Rattle.rvs_base.specs.Host.{Files, Tells}
 use Rattle.rvs_base.specs.Sink.{appended}
-use Rattle.rvs_base.specs.declared.host.DeviceRun.{DeviceRun}
-use Rattle.rvs_plan.specs.World.{contents}
-use Rattle.rvs_plan.specs.Effect.{Answer, Effect, Did, Out, after, Saw}
+use Rattle.rvs_plan.specs.World.{Contents, contents}
+use Rattle.rvs_plan.specs.Effect.{Answer, Effect, Out, after, Saw}
 use Rattle.rvs_plan.specs.Plan.{Plan, Ends, Goes, followed}
 use Rattle.rvs_plan.specs.Performed.{end_of, ComesTo}
 use Rattle.rvs_plan.specs.Meets.{Completes}
@@ -19,9 +17,6 @@ use Rattle.rvs_plan.specs.declared.status.Status.{Status}
 use Rattle.rvs_plan.specs.declared.status.Status.TheVariants as answer
 use Rattle.rvs_plan.specs.declared.status.Finish.{Finish}
 use Rattle.rvs_plan.specs.declared.status.Finish.TheVariants as finish
-use Rattle.rvs_device.specs.Judging.{Spells}
-use Rattle.rvs_device.specs.declared.verdicts.TestVerdict.{TestVerdict}
-use Rattle.rvs_device.proofs.Passing as passing
 use Rattle.rvs_cgf.specs.Groups.{Label}
 use Rattle.rvs_solver.specs.Solving.{IsSolvableAt}
 use Rattle.rvs_suite.specs.Call.{Call, world_of}
@@ -29,30 +24,33 @@ use Rattle.rvs_generate.specs.Generate.{path_of}
 use Rattle.rvs_suite.specs.Headline.{HasProvedTest}
 use Rattle.rvs_suite.specs.Answered.{HasLeft, Answered}
 use Rattle.rvs_generate.specs.GenerateTexts.{listing}
-use Rattle.rvs_run.specs.RunTests.{Bench, tally_line, tallies, passes, with_one, verdict_of_all}
-use Rattle.rvs_run.specs.RunTests.{RunInputs, bench_of, runs, run}
-use Rattle.rvs_suite.specs.RunLeft.{verdict_lines, passed_onto, with_all_judged, task_of}
+use Rattle.rvs_run.specs.RunTests.{made_for, tallies, RunInputs, run_inputs, bench_of, runs, run}
 use Rattle.rvs_inputs.specs.DeviceInput.{device_in}
 use Rattle.rvs_inputs.specs.GroupFiles.{Inputs, and_then, inputs_in, parted_inputs}
-use Rattle.rvs_generate.specs.TestedInputs.{tested_in, labels_in}
+use Rattle.rvs_generate.specs.TestedInputs.{tested_in}
+use Rattle.rvs_generate.specs.TestedInputs.{labels_in}
 use Rattle.rvs_suite.specs.Rooms.{AsksForRoom}
 use Rattle.rvs_suite.specs.Signing.{IsSigned}
-use Rattle.rvs_suite.specs.Judging.{run_inputs_in, tests_in, HasJudged, HasTestFiles, Runs}
+use Rattle.rvs_suite.specs.Judging.{run_inputs_in, tests_in, HasJudged, HasJudgedTests}
+use Rattle.rvs_suite.specs.Judging.{HasTestFiles, Runs}
+use Rattle.rvs_generate.specs.Tests.{held}
 use Rattle.rvs_generate.specs.declared.gathering.Test.{Test}
+use Rattle.rvs_generate.specs.declared.sources.Source.TheVariants.{Held}
 use Rattle.rvs_words.specs.declared.command.Command.TheVariants.{Run}
 use Rattle.rvs_suite.proofs.Answered.{RunsOn, ran-command}
 use Rattle.rvs_suite.proofs.Ends.{means-end, was_refused, was_missing}
 use Rattle.rvs_inputs.proofs.Finding.{Behind, behind, end-found}
 use Rattle.rvs_suite.proofs.Running.{at_status, asked_means}
 use Rattle.rvs_suite.proofs.RunReads.{finds-run}
-use Rattle.rvs_suite.proofs.RunSteps.{first_did, contents_of, appended-twice, JudgedAll, judged-all}
-use Rattle.rvs_suite.proofs.Sparing.{run-spares}
-use Rattle.rvs_suite.proofs.Passed.{are-judged}
+use Rattle.rvs_suite.proofs.RunSteps.{did-step, contents_of, appended-twice}
+use Rattle.rvs_suite.proofs.SparingTests.{run-spares}
+use Rattle.rvs_suite.proofs.Passed.{never-failed}
 use Rattle.rvs_suite.proofs.Signed.{has-test, proved}
 use Rattle.rvs_suite.proofs.Signs.{signs}
 use Rattle.rvs_suite.proofs.Standing.{files-stand, test_by, test-of}
 use Rattle.rvs_suite.proofs.RoomEnds.{asks, asked-room, asked-then}
 use Rattle.rvs_suite.proofs.Tested.{good-inputs, placed-inputs, groups-accepted, tested-run}
+use Rattle.rvs_suite.proofs.Trials.{tried-all, told-runs, has-judged}
 use Rattle.rvs_suite.proofs.Untouched.{never-end, runs-on, untouched}
 use Rattle.rvs_suite.proofs.Written.{apart-labels}
 use Rattle.rvs_words.specs.declared.command.RunArguments.{RunArguments}
@@ -94,156 +92,62 @@ ended files asked inputs status (Err stop) given comes is =
     sym given ∙ stopped files asked stop comes in absurd cc
 
 -- ---- what is left
-record Left (program work : List ℕ) (inputs : RunInputs) (files : Files) (before : List DeviceRun)
-    (out : Option (List ℕ)) (end : Finish) (effects : List Effect) : Type 0 where
-  all : JudgedAll (bench_of program work inputs) (tests_in inputs) 0
-      (tallies (length (tests_in inputs))) files before
-      (appended out (listing inputs.groups.isa inputs.groups.groups)) (Ok end) effects
-  same : after effects
-      (contents_of files before (appended out (listing inputs.groups.isa inputs.groups.groups)))
-      ≡ contents_of
-      (with_all_judged (bench_of program work inputs) (tests_in inputs) all.news files)
-      (before ++ all.news)
-      (appended out (listing inputs.groups.isa inputs.groups.groups ++ (verdict_lines
-      (bench_of program work inputs) (tests_in inputs) all.news ++ tally_line
-      (length (tests_in inputs))
-      (passed_onto (bench_of program work inputs) 0 (tests_in inputs) all.news))))
-  verdict : end ≡ verdict_of_all (length (tests_in inputs))
-      (passed_onto (bench_of program work inputs) 0 (tests_in inputs) all.news)
-
--- nothing comes behind an end
-at-end : (value end : Finish) (effects : List Effect)
-    → Goes (Ends (Ok value)) effects (Ends (Ok end)) → (effects ≡ []) × (end ≡ value)
-at-end value end [] goes = (refl, let same : value ≡ end = cc in sym same)
-at-end value end (effect ∷ effects) goes = absurd goes
-
-tallied : (program work : List ℕ) (inputs : RunInputs) (files : Files) (before : List DeviceRun)
-    (out : Option (List ℕ)) (end : Finish) (effects : List Effect)
-    → JudgedAll (bench_of program work inputs) (tests_in inputs) 0
-    (tallies (length (tests_in inputs))) files before
-    (appended out (listing inputs.groups.isa inputs.groups.groups)) (Ok end) effects
-    → Left program work inputs files before out end effects
-tallied program work inputs files before out end effects all =
-    let bench = bench_of program work inputs in
-    let tests = tests_in inputs in
-    let said = listing inputs.groups.isa inputs.groups.groups in
-    let lines = verdict_lines bench tests all.news in
-    let tally = tally_line (length tests) (passed_onto bench 0 tests all.news) in
-    let last = first_did (Out tally)
-    (Ends (Ok (verdict_of_all (length tests) (passed_onto bench 0 tests all.news)))) (Ok end)
-    all.later all.goes in
-    let over = at-end (verdict_of_all (length tests) (passed_onto bench 0 tests all.news)) end
-    last.rest last.goes in
-    let later : all.later ≡ Did (Out tally) ∷ [] =
-    last.is ∙ ap (λ (es : List Effect). Did (Out tally) ∷ es) over.0 in
-    let now = contents_of (with_all_judged bench tests all.news files) (before ++ all.news) in
-    record {
-      all = all;
-      same = all.same
-          ∙ ap (λ (es : List Effect). after es (now (appended (appended out said) lines))) later
-          ∙ ap (λ (o : Option (List ℕ)). now o) (appended-twice (appended out said) lines tally
-          ∙ appended-twice out said (lines ++ tally));
-      verdict = over.1;
-    }
-
-judged : (program work : List ℕ) (inputs : RunInputs) (files : Files) (before : List DeviceRun)
-    (out : Option (List ℕ)) (end : Finish) (effects : List Effect) → Goes (runs program work inputs)
-    effects (Ends (Ok end)) → Saw effects (contents_of files before out)
-    → (later : List Effect) × Left program work inputs files before out end later × (after effects
-    (contents_of files before out) ≡ after later
-    (contents_of files before (appended out (listing inputs.groups.isa inputs.groups.groups))))
-judged program work inputs files before out end effects goes saw =
-    let bench = bench_of program work inputs in
-    let tests = tests_in inputs in
-    let said = listing inputs.groups.isa inputs.groups.groups in
-    let first = first_did (Out said) _ (Ok end) effects goes in
-    let seen = subst (λ (es : List Effect). Saw es (contents_of files before out)) first.is saw in (
-      first.rest,
-      tallied program work inputs files before out end first.rest (judged-all bench tests 0
-          (tallies (length tests)) files before (appended out said) (Ok end) first.rest first.goes
-          seen.1),
-      ap (λ (es : List Effect). after es (contents_of files before out)) first.is,
-    )
-
-told-runs : (r : Option (List DeviceRun)) → is_some r ≡ true
-    → (runs : List DeviceRun) × (r ≡ Some runs)
-told-runs r is = grind arith
-
-has-judged : {call : Call} (program work : List ℕ) (inputs : RunInputs) (files : Files)
-    (end : Finish) (effects : List Effect) → Tells call.old.host files → Goes
-    (runs program work inputs) effects (Ends (Ok end)) → Saw effects (contents (world_of call.old))
-    → contents (world_of call.new) ≡ after effects (contents (world_of call.old)) → HasJudged call
-    program work end inputs
-has-judged {call} program work inputs files end effects t goes saw did =
-    grind (arith, told-runs, contents_of, judged, option_map, are-judged)
-
 -- by what the inputs come to
-left-by : {call : Call} (program work : List ℕ) (found : Result RunInputs Stop) (files : Files)
-    (end : Finish) (effects : List Effect) → Tells call.old.host files → Behind
-    (rest_of program work found) (Ok end) effects (contents (world_of call.old)) → contents
-    (world_of call.new) ≡ after effects (contents (world_of call.old)) → HasLeft found
-    (HasJudged call program work end)
-left-by program work (Ok inputs) files end effects t b did = record {
-  given = inputs;
-  accepted = refl;
-  left = has-judged program work inputs files end b.later t b.goes b.saw (did ∙ b.same);
-}
-left-by program work (Err stop) files end effects t b did = absurd (no-end b.later b.goes)
+left-by : {call : Call} (files : Files) (asked : RunArguments) (found : Result RunInputs Stop)
+    (end : Finish) (effects : List Effect) → Tells call.old.host files
+    → Behind (rest_of asked.program asked.work found) (Ok end) effects
+    (contents (world_of call.old))
+    → contents (world_of call.new) ≡ after effects (contents (world_of call.old))
+    → HasLeft found (λ inputs. HasJudgedTests call files asked inputs end)
+left-by {call} files asked (Ok inputs) end effects t b did =
+    let bench = bench_of asked.program asked.work inputs in
+    let said = listing inputs.groups.isa inputs.groups.groups in
+    let before = told-runs call.old.host.runs t.runs in
+    let out = call.old.out.bytes in
+    let now = contents (world_of call.new) in
+    let old : contents (world_of call.old) ≡ contents_of files before.0 out =
+    λ i. record { files = t.files i; runs = before.1 i; out = out } in
+    let first = did-step (Out said) _ (Ok end) b.later (contents_of files before.0 out) b.goes
+    (subst (λ (c : Contents). Saw b.later c) old b.saw) in
+    record {
+      given = inputs;
+      accepted = refl;
+      left = has-judged (λ (test : Test). Held test) call bench (tests_in inputs) said files
+          (appended out said) before.0 end before.1 (λ more. appended-twice out said more)
+          (tried-all (λ (test : Test). Held test) bench (tests_in inputs) 0
+          (tallies (length (held (tests_in inputs)))) files before.0 (appended out said) (Ok end)
+          first.rest now (did ∙ b.same ∙ ap (λ (c : Contents). after b.later c) old ∙ first.same)
+          first.goes first.saw);
+    }
+left-by {call} files asked (Err stop) end effects t b did = absurd (no-end b.later b.goes)
   where
     no-end : (later : List Effect) → Goes (Ends (Err stop)) later (Ends (Ok end)) → ⊥
     no-end [] goes = cc
     no-end (effect ∷ later) goes = goes
 
+-- where it came to its end, all tests were judged
+abbrev WasJudged : Call → Files → RunArguments → Finish → Type 0
+WasJudged call files asked end =
+    HasLeft (run_inputs_in files asked) (λ inputs. HasJudgedTests call files asked inputs end)
+
 left : {call : Call} (files : Files) (asked : RunArguments) (end : Finish)
     → Tells call.old.host files → Completes
     (run asked) (Ok end) (contents (world_of call.old))
-    (contents (world_of call.new)) → HasLeft (run_inputs_in files asked)
-    (HasJudged call asked.program asked.work end)
-left {call} files asked end t r = search (rules, left-by, behind, finds-run)
+    (contents (world_of call.new)) → WasJudged call files asked end
+left {call} files asked end t r = left-by files asked (run_inputs_in files asked) end r.effects t
+    (behind files (run_inputs asked) (runs asked.program asked.work)
+    (run_inputs_in files asked) (Ok end) r.effects (contents (world_of call.old))
+    (finds-run files asked) t.files r.saw r.goes) r.did
 
--- ---- one test that passes
-one_passes : (bench : Bench) (test : Test) (run : DeviceRun) → Spells (task_of bench test) run.after
-    → verdict_of_all 1 (passed_onto bench 0 (test ∷ []) (run ∷ [])) ≡ finish.Done
-one_passes bench test run spells =
-    ap (λ (v : TestVerdict). verdict_of_all 1 (with_one 0 (passes v)))
-    ((passing.passes (task_of bench test) run.status run.after).1 spells)
-
--- so it isn't the one that doesn't
-not-failed : {call : Call} (program work : List ℕ) (inputs : RunInputs) (test : Test)
-    (before : List DeviceRun) (run : DeviceRun)
-    → HasJudged call program work finish.NotPassed inputs → tests_in inputs ≡ test ∷ []
-    → call.old.host.runs ≡ Some before
-    → call.new.host.runs ≡ Some (before ++ run ∷ [])
-    → Spells (task_of (bench_of program work inputs) test) run.after → ⊥
-not-failed {call} program work inputs test before run judged one old new spells =
-    let bench = bench_of program work inputs in
-    let both : Some (before ++ run ∷ []) ≡ Some (before ++ judged.runs) =
-    sym new ∙ judged.made
-    ∙ ap (λ (r : Option (List DeviceRun)). option_map (λ b. b ++ judged.runs) r) old in
-    let same : before ++ run ∷ [] ≡ before ++ judged.runs = cc in
-    let runs_are = append_cancel_left before (run ∷ []) judged.runs same in
-    let verdict = subst (λ (tests : List Test). finish.NotPassed
-    ≡ verdict_of_all (length tests) (passed_onto bench 0 tests judged.runs)) one
-    judged.verdict in
-    let said = subst (λ (news : List DeviceRun). finish.NotPassed
-    ≡ verdict_of_all 1 (passed_onto bench 0 (test ∷ []) news)) (sym runs_are) verdict in
-    let no : finish.NotPassed ≡ finish.Done = said ∙ one_passes bench test run spells in cc
+given-left : {call : Call} (files : Files) (asked : RunArguments) (inputs : RunInputs)
+    (end : Finish) → run_inputs_in files asked ≡ Ok inputs → WasJudged call files asked end
+    → HasJudgedTests call files asked inputs end
+given-left {call} files asked inputs end is l = grind (arith, left)
 
 done-only : (status : Status)
     → (status ≡ answer.Done) ⊎ (status ≡ answer.NotPassed) ⊎ (status ≡ answer.NoMemory)
     → (status ≡ answer.NotPassed → ⊥) → (status ≡ answer.Done) ⊎ (status ≡ answer.NoMemory)
 done-only status h never = grind arith
-
-given-left : {call : Call} (program work : List ℕ) (inputs : RunInputs) (end : Finish)
-    (found : Result RunInputs Stop)
-    → found ≡ Ok inputs → HasLeft found (HasJudged call program work end)
-    → HasJudged call program work end inputs
-given-left {call} program work inputs end found is l = grind (arith, left)
-
--- where it came to its end, all tests were judged
-abbrev WasJudged : Call → Files → RunArguments → Finish → Type 0
-WasJudged call files asked end =
-    HasLeft (run_inputs_in files asked) (HasJudged call asked.program asked.work end)
 
 judged-done : {call : Call} (files : Files) (asked : RunArguments) → RunsOn call files (Run asked)
     → call.status ≡ answer.Done
@@ -278,9 +182,8 @@ there {call} files asked r inputs test files' given inside ended told =
   where
     stand : (end : Finish) → WasJudged call files asked end
         → HasTestFiles call (bench_of asked.program asked.work inputs) test files'
-    stand end was = files-stand {call = call} asked.program asked.work inputs end files files' test
-        (given-left {call = call} asked.program asked.work inputs end (run_inputs_in files asked)
-        given was) r.told.files told
+    stand end was = files-stand {call = call} asked inputs end files files' test
+        (given-left {call = call} files asked inputs end given was) told
         (apart-labels files asked.part asked.isa asked.families asked.groups inputs.groups
         (groups-accepted files asked inputs given)) inside
 
@@ -307,7 +210,7 @@ proved-there {call} files asked r inputs l k files' given inside selected
 -- how it ends
 answers-run : {call : Call} (files : Files) (asked : RunArguments)
     → RunsOn call files (Run asked) → Answered call (run_inputs_in files asked)
-    (λ inputs end. HasJudged call asked.program asked.work end inputs)
+    (HasJudgedTests call files asked)
 answers-run {call} files asked r =
     let old = world_of call.old in
     let new = world_of call.new in
@@ -361,7 +264,7 @@ rooms : {call : Call} (files : Files) (asked : RunArguments) → RunsOn call fil
     → AsksForRoom call files inputs
 rooms {call} files asked r inputs given =
     asks files inputs (run_inputs_in files asked)
-    (λ i end. HasJudged call asked.program asked.work end i)
+    (HasJudgedTests call files asked)
     (good-inputs files asked.isa asked.families asked.groups inputs given)
     (placed-inputs files asked.isa asked.families asked.groups inputs given)
     (asked-then inputs (labels_in files asked.part asked.isa asked.families asked.groups)
@@ -373,7 +276,8 @@ rooms {call} files asked r inputs given =
     (answers-run files asked r)
     (λ is. untouched (ran-command r) files r.told tt (inr is))
     (λ text refused files' other. run-spares r.ran files files' asked other r.told r.asks
-    (λ i test accepted. let no : Err (why.Refused text) ≡ Ok i = sym refused ∙ accepted in absurd cc))
+    (λ i test accepted. let no : Err (why.Refused text) ≡ Ok i =
+    sym refused ∙ accepted in absurd cc))
 
 -- where it is done, each test passes, and each label with a solvable point has one
 signed : {call : Call} (files : Files) (asked : RunArguments) → RunsOn call files (Run asked)
@@ -385,7 +289,7 @@ signed {call} files asked r is =
     record {
       given = h.given;
       accepted = h.accepted;
-      left = signs {call = call} asked.program asked.work h.given h.left
+      left = signs {call = call} files asked h.given h.left
           (tested-run files asked h.given h.accepted);
     }
 
@@ -404,12 +308,15 @@ judges {call} files asked r =
             | inl m ↦ done-only call.status
                 (ended files asked inputs call.status m.end given m.comes
                 m.status_is)
-                (λ not_passed. not-failed {call = call} asked.program asked.work inputs test
-                before run
-                (given-left {call = call} asked.program asked.work inputs finish.NotPassed
-                (run_inputs_in files asked) given
-                (judged-not_passed files asked r not_passed))
-                one was now spells)
+                (λ not_passed. never-failed {call = call}
+                (bench_of asked.program asked.work inputs) files (Held test)
+                (listing inputs.groups.isa inputs.groups.groups)
+                (made_for (bench_of asked.program asked.work inputs) test) before run refl was now
+                spells (subst (λ (tests : List Test). HasJudged call
+                (bench_of asked.program asked.work inputs) files (held tests)
+                (listing inputs.groups.isa inputs.groups.groups) finish.NotPassed) one
+                (given-left {call = call} files asked inputs finish.NotPassed given
+                (judged-not_passed files asked r not_passed))))
             | inr no_memory ↦ inr no_memory
           ];
       others_kept = λ files' other. run-spares r.ran files files' asked

@@ -2,20 +2,22 @@
 use Rattle.std.proofs.Common.{◌≡◌, ◌*◌, inl, inr, ℕ, zero, suc, true, false, true≢false, List, []}
 use Rattle.std.proofs.Common.{◌∷◌, ◌++◌, map, Contains, Option, Some, cond, is_some, option_to_list}
 use Rattle.std.proofs.Common.{None, IsTrue, bytes_eq, slice_get, refl, sym, ap, subst, ◌∙◌, arith}
+use Rattle.std.proofs.lemmas.Bool.{and_from, or_parts}
 use Rattle.std.specs.Prelude.{not}
 use Rattle.std.proofs.lemmas.List.{length-map}
 use Rattle.std.proofs.lemmas.List.Elements.{All-map, All-weaker, All-contains, All-contains_itself}
 use Rattle.std.proofs.lemmas.Option.{slice_get_within}
 use Rattle.std.proofs.lemmas.Slice.Eq.{bytes_eq-Decides}
+use Rattle.rvs_yaml.proofs.WholeLines.{both_true}
 use Rattle.rvs_insn.specs.Isa.{Isa}
 use Rattle.rvs_machine.specs.Image.{ImageValue}
 use Rattle.rvs_machine.specs.Run.{Outcome}
 use Rattle.rvs_asm.proofs.Stands.{image_answered}
 use Rattle.rvs_cgf.specs.Groups.{Label, Point, same_kind, is_point, has}
-use Rattle.rvs_cgf.specs.Print.{kind_name}
-use Rattle.rvs_cgf.specs.Valid.{are_distinct}
-use Rattle.rvs_cgf.specs.declared.group.Kind.{Kind}
-use Rattle.rvs_normal.proofs.Truths.{both, and-true, or-both, not-true}
+use Rattle.rvs_points.specs.Kinds.{kind_name}
+use Rattle.rvs_points.specs.Valid.{are_distinct}
+use Rattle.rvs_points.specs.declared.group.Kind.{Kind}
+use Rattle.rvs_normal.proofs.Truths.{not-true}
 use Rattle.rvs_solver.specs.Solving.{first_at, IsSolvableAt}
 use Rattle.rvs_solver.specs.declared.solved.Solved.{Solved}
 use Rattle.rvs_test_text.specs.declared.claim.Claim.{Claim}
@@ -45,20 +47,20 @@ clash (x ∷ xs) zero p q there none kind key =
     let k = same-names x.kind p.kind ((bytes_eq-Decides (kind_name x.kind) (kind_name p.kind)).1
     (ap (λ (y : Point). kind_name y.kind) same ∙ kind)) in
     let t = (bytes_eq-Decides x.key p.key).1 (ap (λ (y : Point). y.key) same ∙ key) in
-    let none' = (or-both (is_point p.kind p.key x) (has p.kind p.key xs) none).0 in
-    true≢false (sym (and-true (same_kind x.kind p.kind) (bytes_eq x.key p.key) k t) ∙ none')
+    let none' = (or_parts (is_point p.kind p.key x) (has p.kind p.key xs) none).0 in
+    true≢false (sym (and_from (same_kind x.kind p.kind) (bytes_eq x.key p.key) k t) ∙ none')
 clash (x ∷ xs) (suc k) p q there none kind key =
-    clash xs k p q there (or-both (is_point p.kind p.key x) (has p.kind p.key xs) none).1 kind key
+    clash xs k p q there (or_parts (is_point p.kind p.key x) (has p.kind p.key xs) none).1 kind key
 
 unique : (ps : List Point) (i k : ℕ) (p q : Point) → slice_get ps i ≡ Some p
     → slice_get ps k ≡ Some q → are_distinct ps ≡ true → kind_name q.kind ≡ kind_name p.kind
     → q.key ≡ p.key → k ≡ i
 unique [] i k p q here there own kind key = absurd cc
 unique (x ∷ xs) zero zero p q here there own kind key = refl
-unique (x ∷ xs) zero (suc k) p q here there own kind key = grind (arith, both, clash, not-true)
-unique (x ∷ xs) (suc i) zero p q here there own kind key = grind (arith, both, clash, not-true)
+unique (x ∷ xs) zero (suc k) p q here there own kind key = grind (arith, both_true, clash, not-true)
+unique (x ∷ xs) (suc i) zero p q here there own kind key = grind (arith, both_true, clash, not-true)
 unique (x ∷ xs) (suc i) (suc k) p q here there own kind key =
-    let o = both (not (has x.kind x.key xs)) (are_distinct xs) own in
+    let o = both_true (not (has x.kind x.key xs)) (are_distinct xs) own in
     ap (λ (n : ℕ). suc n) (unique xs i k p q here there o.1 kind key)
 
 -- ---- claims and their names

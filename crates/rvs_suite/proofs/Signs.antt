@@ -1,8 +1,8 @@
 -- Where `run` is done each test passes, and each label with a point that a choice hits has one.
 use Rattle.std.proofs.Common.{◌≡◌, ℕ, zero, suc, List, [], ◌∷◌, Contains, Some, All, refl, sym}
 use Rattle.std.proofs.Common.{ap, subst, ◌∙◌, arith}
-use Rattle.std.specs.List.{zip}
 use Rattle.std.proofs.lemmas.List.Elements.{All-head, All-tail, Contains-append_right}
+use Rattle.rvs_base.specs.Host.{Files}
 use Rattle.rvs_base.specs.declared.host.DeviceRun.{DeviceRun}
 use Rattle.rvs_plan.specs.declared.status.Finish.TheVariants as finish
 use Rattle.rvs_insn.specs.Isa.{Isa}
@@ -15,14 +15,17 @@ use Rattle.rvs_test.specs.Made.{cases_of}
 use Rattle.rvs_suite.specs.Call.{Call}
 use Rattle.rvs_suite.specs.Headline.{IsProved}
 use Rattle.rvs_run.specs.RunTests.{Bench, RunInputs, bench_of}
-use Rattle.rvs_suite.specs.RunLeft.{IsRunOf, AreRunsOf, task_of, HasSpelled}
-use Rattle.rvs_suite.specs.Judging.{tests_in, HasJudged}
+use Rattle.rvs_suite.specs.RunLeft.{Trial, with_trial, AreTrialsOf, runs_of, IsRunOf, task_of}
+use Rattle.rvs_suite.specs.RunLeft.{HasSpelled}
+use Rattle.rvs_suite.specs.Judging.{tests_in, HasJudgedTests}
 use Rattle.rvs_suite.specs.Signing.{Passes, IsSigned}
 use Rattle.rvs_suite.specs.Tested.{AreTested}
-use Rattle.rvs_generate.specs.Tests.{reference_words, words_of_image, run_on}
+use Rattle.rvs_generate.specs.Tests.{reference_words, words_of_image, run_on, held}
 use Rattle.rvs_generate.specs.declared.gathering.Test.{Test}
+use Rattle.rvs_words.specs.declared.command.RunArguments.{RunArguments}
+use Rattle.rvs_suite.proofs.KeptTrials.{held-trial}
 use Rattle.rvs_suite.proofs.Signed.{has-test, proved}
-use Rattle.rvs_suite.proofs.Standing.{among-runs, test_by, test-of}
+use Rattle.rvs_suite.proofs.Standing.{held-run, among-runs, test_by, test-of}
 
 record Passed (bench : Bench) (test : Test) (runs : List DeviceRun) : Type 0 where
   run : DeviceRun
@@ -30,23 +33,26 @@ record Passed (bench : Bench) (test : Test) (runs : List DeviceRun) : Type 0 whe
   is_run : IsRunOf bench test run
   spells : Spells (task_of bench test) run.after
 
-passed : (bench : Bench) (ts : List Test) (rs : List DeviceRun) → AreRunsOf bench ts rs
-    → All (HasSpelled bench) (zip ts rs) → (test : Test) → Contains ts test → Passed bench test rs
-passed bench [] rs each all test (i, within, at) = absurd (omega (arith, within))
-passed bench (t ∷ ts) [] each all test there = absurd each
-passed bench (t ∷ ts) (r ∷ rs) each all test (zero, within, at) =
-    subst (λ (x : Test). Passed bench x (r ∷ rs)) at (record {
-      run = r;
+passed : (bench : Bench) (files : Files) (ts : List Test) (trials : List Trial)
+    → AreTrialsOf bench files (held ts) trials → All (HasSpelled bench) trials
+    → (test : Test) → Contains ts test → Passed bench test (runs_of trials)
+passed bench files [] trials each all test (i, within, at) = absurd (omega (arith, within))
+passed bench files (t ∷ ts) [] each all test there = absurd each
+passed bench files (t ∷ ts) (trial ∷ trials) each all test (zero, within, at) =
+    subst (λ (x : Test). Passed bench x (runs_of (trial ∷ trials))) at (record {
+      run = trial.run;
       among = (0, omega arith, refl);
-      is_run = each.0;
-      spells = All-head (HasSpelled bench) (t, r) (zip ts rs) all;
+      is_run = held-run bench files t trial each.0;
+      spells = subst (λ (x : Trial). HasSpelled bench x)
+          (held-trial bench files t trial each.0)
+          (All-head (HasSpelled bench) trial trials all);
     })
-passed bench (t ∷ ts) (r ∷ rs) each all test (suc k, within, at) =
-    let p = passed bench ts rs each.1 (All-tail (HasSpelled bench) (t, r) (zip ts rs) all) test
-    (k, omega (arith, within), at) in
+passed bench files (t ∷ ts) (trial ∷ trials) each all test (suc k, within, at) =
+    let p = passed bench (with_trial trial files) ts trials each.1
+    (All-tail (HasSpelled bench) trial trials all) test (k, omega (arith, within), at) in
     record {
       run = p.run;
-      among = Contains-append_right (r ∷ []) rs p.run p.among;
+      among = Contains-append_right (trial.run ∷ []) (runs_of trials) p.run p.among;
       is_run = p.is_run;
       spells = p.spells;
     }
@@ -63,19 +69,21 @@ judged-by isa l text p header =
     ap (words_of_image isa (step_limit (cases_of isa l))) p.alone
     ∙ ap (λ (n : ℕ). words_after p.image isa (run_on isa p.image n)) same
 
-pub signs : {call : Call} (program work : List ℕ) (inputs : RunInputs)
-    → HasJudged call program work finish.Done inputs → AreTested inputs.groups
-    → IsSigned call (bench_of program work inputs) inputs.groups.groups (tests_in inputs)
-signs {call} program work inputs judged tested =
+pub signs : {call : Call} (files : Files) (asked : RunArguments) (inputs : RunInputs)
+    → HasJudgedTests call files asked inputs finish.Done → AreTested inputs.groups
+    → IsSigned call (bench_of asked.program asked.work inputs) inputs.groups.groups
+    (tests_in inputs)
+signs {call} files asked inputs judged tested =
     let isa = inputs.groups.isa in
-    let bench = bench_of program work inputs in
+    let bench = bench_of asked.program asked.work inputs in
     let of_run : (test : Test) → Contains (tests_in inputs) test → Passes call bench test =
     λ test there.
-    let p = passed bench (tests_in inputs) judged.runs judged.each judged.means test there in
+    let p = passed bench files (tests_in inputs) judged.trials judged.tried.each judged.means test
+    there in
     record {
       run = p.run;
-      made = λ runs is. among-runs judged.runs runs p.run call.old.host.runs p.among
-          (sym is ∙ judged.made);
+      made = λ runs is. among-runs (runs_of judged.trials) runs p.run call.old.host.runs p.among
+          (sym is ∙ judged.tried.made);
       is_run = p.is_run;
       spells = p.spells;
     } in

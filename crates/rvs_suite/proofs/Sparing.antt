@@ -1,5 +1,5 @@
--- That `reference`, `generate` and `run` change no file but their own, however they end.
-use Rattle.std.proofs.Common.{◌≡◌, ◌≢◌, ℕ, Bool, true, false, List, [], ◌∷◌, length, Option, Some}
+-- That `reference` and `generate` change no file but their own, however they end.
+use Rattle.std.proofs.Common.{◌≡◌, ◌≢◌, ℕ, Bool, true, false, List, [], ◌∷◌, Option, Some}
 use Rattle.std.proofs.Common.{None, Result, Ok, Err, if◌then◌else◌, refl, sym, subst, ap}
 use Rattle.std.proofs.Common.{◌∙◌, Contains, arith, rules}
 use Rattle.std.specs.Prelude.{⊤}
@@ -17,7 +17,6 @@ use Rattle.rvs_plan.specs.declared.stop.Stop.TheVariants as why
 use Rattle.rvs_plan.specs.declared.status.Status.{Status}
 use Rattle.rvs_plan.specs.declared.status.Status.TheVariants as answer
 use Rattle.rvs_plan.specs.declared.status.Finish.{Finish}
-use Rattle.rvs_device.specs.Command.{wants_elf}
 use Rattle.rvs_reference.specs.Reference.{records, reference}
 use Rattle.rvs_insn.specs.Isa.{Isa}
 use Rattle.rvs_cgf.specs.Groups.{Label}
@@ -27,36 +26,25 @@ use Rattle.rvs_inputs.specs.Printing.{print_text}
 use Rattle.rvs_generate.specs.TestedInputs.{part_inputs, labels_in}
 use Rattle.rvs_generate.specs.GenerateTexts.{listing}
 use Rattle.rvs_generate.specs.Generate.{path_of, writes_text, writes_test, writes_tests}
-use Rattle.rvs_generate.specs.Generate.{written_tests, generates, generate}
-use Rattle.rvs_generate.specs.Tests.{reference_words, executable_of, test_with, tests_of_label}
-use Rattle.rvs_generate.specs.Tests.{tests_of}
-use Rattle.rvs_run.specs.RunTests.{Bench, files_for, asks_elf, if_asked, judges_made, announces}
-use Rattle.rvs_run.specs.RunTests.{judges_one, with_one, judges_all, tallies}
-use Rattle.rvs_run.specs.RunTests.{RunInputs, run_inputs, bench_of, runs, run}
+use Rattle.rvs_generate.specs.Generate.{written_tests}
+use Rattle.rvs_generate.specs.Generate.{generates, generate}
+use Rattle.rvs_generate.specs.Tests.{test_with, tests_of_label, tests_of}
 use Rattle.rvs_suite.specs.Generating.{IsNoTest}
-use Rattle.rvs_generate.specs.TestFiles.{IsOther, files_of}
-use Rattle.rvs_suite.specs.Judging.{run_inputs_in, tests_in}
 use Rattle.rvs_suite.specs.Plans.{plan_of}
 use Rattle.rvs_inputs.proofs.Finding.{Finds}
 use Rattle.rvs_suite.proofs.TestedInputs.{finds-labels}
-use Rattle.rvs_suite.proofs.RunReads.{finds-run}
 use Rattle.rvs_suite.proofs.Running.{Ran, answers}
 use Rattle.rvs_words.specs.declared.command.Command.{Command}
-use Rattle.rvs_words.specs.declared.command.Command.TheVariants.{Generate, Reference, Run}
+use Rattle.rvs_words.specs.declared.command.Command.TheVariants.{Generate, Reference}
 use Rattle.rvs_generate.specs.declared.gathering.Test.{Test}
 use Rattle.rvs_reference.specs.declared.test_run.Run.{Run as TestRun}
-use Rattle.rvs_generate.specs.declared.test_files.TestFiles.{TestFiles}
 use Rattle.rvs_words.specs.declared.command.GenerateArguments.{GenerateArguments}
 use Rattle.rvs_words.specs.declared.command.ReferenceArguments.{ReferenceArguments}
-use Rattle.rvs_words.specs.declared.command.RunArguments.{RunArguments}
 
 -- what the named file holds, where files are told
 abbrev pub held : List ℕ → Option Files → Option (Option (List ℕ))
 held name None = None
 held name (Some files) = Some (files name)
-
-unchosen : (b : Bool) (x y : Option (List ℕ)) → (b ≡ true → ⊥) → (if b then x else y) ≡ y
-unchosen b x y never = grind arith
 
 pub unwritten : (other name bytes : List ℕ) (files : Option Files) → other ≢ name
     → held other (written name bytes files) ≡ held other files
@@ -287,47 +275,6 @@ spares-generate files other asked apart = spares-found files other
     (spares-tests other asked.work inputs.isa inputs.groups
     (λ test there. apart inputs test given there)) (λ _. tt)) (λ text. tt))
 
-spares-made : (other : List ℕ) (bench : Bench) (text name : List ℕ) (files : TestFiles)
-    (words : List ℕ) (wants : Bool) (executable : List ℕ) → IsOther wants files other
-    → Spares other (judges_made bench text (record {
-      files = files;
-      executable = if_asked wants executable;
-      words = words;
-    }) >>= announces name)
-spares-made other bench text name files words wants executable this = grind arith
-
-spares-judging : (other : List ℕ) (bench : Bench) (passed : ℕ) (tests : List Test)
-    → ((test : Test) → Contains tests test
-    → IsOther (asks_elf bench) (files_for bench test) other)
-    → Spares other (judges_all bench passed tests)
-spares-judging other bench passed [] apart = tt
-spares-judging other bench passed (test ∷ tests) apart =
-    let this = apart test (0, omega arith, refl) in
-    Spares-then other (judges_one bench test) (λ pass. judges_all bench
-    (with_one passed pass) tests)
-    (spares-made other bench test.text test.name (files_for bench test)
-    (reference_words bench.isa test) (asks_elf bench) (executable_of bench.isa test) this) (λ pass.
-    spares-judging other bench (with_one passed pass) tests
-    (λ t there. apart t (Contains-append_right (test ∷ []) tests t there)))
-
--- a file that is none of the tests of these inputs, where they are accepted
-abbrev IsNoFile : Files → RunArguments → List ℕ → Type 0
-IsNoFile files asked other = (inputs : RunInputs) (test : Test)
-    → run_inputs_in files asked ≡ Ok inputs
-    → Contains (tests_in inputs) test
-    → IsOther (wants_elf inputs.device.command) (files_of asked.work test.name) other
-
-spares-run : (files : Files) (other : List ℕ) (asked : RunArguments) → IsNoFile files asked other
-    → SparesOver files other (run asked)
-spares-run files other asked apart = spares-found files other (run_inputs asked)
-    (runs asked.program asked.work) (run_inputs_in files asked) (finds-run files asked)
-    (λ inputs given.
-    let bench = bench_of asked.program asked.work inputs in
-    let tests = tests_in inputs in
-    Spares-then other (judges_all bench 0 tests) (tallies (length tests))
-    (spares-judging other bench 0 tests (λ test there. apart inputs test given there))
-    (λ passed. tt))
-
 -- a command that spares a file leaves it as it was
 pub spares : {command : Command} {old new : World} {err err' : SinkState} {status : Status}
     → Ran command old new err err' status
@@ -360,13 +307,3 @@ pub generate-spares : {command : Command} {old new : World} {err err' : SinkStat
     → new.host.files ≡ Some files' → files' other ≡ files other
 generate-spares r files files' asked other t is apart told =
     spares r files files' (Generate asked) other t is (spares-generate files other asked apart) told
-
-pub run-spares : {command : Command} {old new : World} {err err' : SinkState} {status : Status}
-    → Ran command old new err err' status → (files files' : Files) (asked : RunArguments)
-    (other : List ℕ) → Tells old.host files → command ≡ Run asked
-    → ((inputs : RunInputs) (test : Test) → run_inputs_in files asked ≡ Ok inputs
-    → Contains (tests_in inputs) test
-    → IsOther (wants_elf inputs.device.command) (files_of asked.work test.name) other)
-    → new.host.files ≡ Some files' → files' other ≡ files other
-run-spares r files files' asked other t is apart told =
-    spares r files files' (Run asked) other t is (spares-run files other asked apart) told

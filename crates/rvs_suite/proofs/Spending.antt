@@ -38,29 +38,6 @@ more (Asks name bound next) n b n' b' few small s = (
 more (Runs words test signature next) n b n' b' few small s =
     λ answer. more (next answer) n b n' b' few small (s answer)
 
-spends-followed : {A B : Type 0} (end : Result A Stop) (next : A → Plan B) (n b : ℕ)
-    → ((a : A) → Spends n b (next a)) → Spends n b (followed end next)
-spends-followed h = grind arith
-
--- one plan, and what follows it
-pub Spends-then : {A B : Type 0} (plan : Plan A) (next : A → Plan B) (n b m c : ℕ)
-    → Spends n b plan → ((a : A) → Spends m c (next a)) → Spends (n + m) (b + c) (plan >>= next)
-Spends-then (Ends end) next n b m c s then = grind (arith, spends-followed, more)
-Spends-then (Does deed plan) next n b m c s then = Spends-then plan next n b m c s then
-Spends-then (Asks name bound rest) next n b m c s then = (
-  omega (arith, s.0),
-  omega (arith, s.1),
-  λ found. more (rest found >>= next) (n - 1 + m) (b - bound + c) (n + m - 1) (b + c - bound)
-      (omega (arith, s.0)) (omega (arith, s.1))
-      (Spends-then (rest found) next (n - 1) (b - bound) m c (s.2 found) then),
-)
-Spends-then (Runs words test signature rest) next n b m c s then =
-    λ answer. Spends-then (rest answer) next n b m c (s answer) then
-
-ReadsAtMost-then : {n m a b : ℕ} {old mid new : HostState} → ReadsAtMost n a old mid
-    → ReadsAtMost m b mid new → ReadsAtMost (n + m) (a + b) old new
-ReadsAtMost-then first next = grind arith
-
 -- what is read on any way through such a plan
 on_way : {A : Type 0} (plan : Plan A) (effects : List Effect) (n b : ℕ) (old new : HostState)
     → Spends n b plan → TakesOn plan effects old new → ReadsAtMost n b old new

@@ -14,7 +14,7 @@ use Rattle.rvs_isa.proofs.Rooms.{accepted_have_room}
 use Rattle.rvs_isa.specs.declared.accepted_spec.AcceptedSpec.{AcceptedSpec}
 use Rattle.rvs_yaml.specs.Parsed.{Parsed}
 use Rattle.rvs_cgf.specs.Groups.{Label, Refusal, groups_of}
-use Rattle.rvs_cgf.specs.Valid.{IsValid, IsValidIfSelected}
+use Rattle.rvs_points.specs.Valid.{IsValid, IsValidIfSelected}
 use Rattle.rvs_cgf.proofs.Validity.{groups_good}
 use Rattle.rvs_solver.specs.declared.solved.Solved.{Solved}
 use Rattle.rvs_test_text.specs.declared.claim.Claim.{Claim}
@@ -79,10 +79,6 @@ good-inputs files isa families names inputs given =
 -- ---- the core has room for text and data
 abbrev pub IsPlaced : Inputs → Type 0
 IsPlaced inputs = HasRoom inputs.isa.memory
-
-placed-groups : (isa : Isa) (r : Result (List Label) Stop) → HasRoom isa.memory
-    → IfOk (inputs_of isa r) IsPlaced
-placed-groups isa r room = grind arith
 
 placed-text : (isa : Isa) (families : Families) (r : Result (List ℕ) Stop) → HasRoom isa.memory
     → IfOk (and_then r (λ text. inputs_of isa (groups_found isa families text))) IsPlaced

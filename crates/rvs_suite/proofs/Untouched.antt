@@ -30,8 +30,10 @@ use Rattle.rvs_inputs.specs.Printing.{print_text}
 use Rattle.rvs_coverage.specs.Coverage as covering
 use Rattle.rvs_coverage.specs.Propagate as propagating
 use Rattle.rvs_reference.specs.Reference.{trial, records, reference_on}
-use Rattle.rvs_run.specs.RunTests.{Bench, judges_made, made_for, announces, judges_one, with_one}
-use Rattle.rvs_run.specs.RunTests.{judges_all, RunInputs, run_inputs, runs}
+use Rattle.rvs_generate.specs.Tests.{reference_words, held}
+use Rattle.rvs_run.specs.RunTests.{Bench, files_for, executable_for, announces_made, judges_one}
+use Rattle.rvs_run.specs.RunTests.{with_one, judges_all, RunInputs, run_inputs}
+use Rattle.rvs_run.specs.RunTests.{runs}
 use Rattle.rvs_suite.specs.Plans.{plan_of, ReadsFirst}
 use Rattle.rvs_suite.proofs.Ends.{was_refused, WasMissing, was_missing}
 use Rattle.rvs_inputs.proofs.Readers.{OnlyReads}
@@ -51,6 +53,7 @@ use Rattle.rvs_words.specs.declared.command.Command.TheVariants.{Coverage, Propa
 use Rattle.rvs_words.specs.declared.command.Command.TheVariants.{RunDatabase, Report, Select}
 use Rattle.rvs_reference.specs.declared.test_run.Run.{Run as TestRun}
 use Rattle.rvs_generate.specs.declared.gathering.Test.{Test}
+use Rattle.rvs_generate.specs.declared.sources.Source.TheVariants.{Held}
 use Rattle.rvs_generate.specs.declared.test_files.TestFiles.{TestFiles}
 
 -- a plan that doesn't stop, whatever is found and answered
@@ -153,18 +156,18 @@ tests-on work isa (l ∷ ls) = grind (arith, never-then, chosen-on, (tests-on wo
 generates-on : (work : List ℕ) (inputs : Inputs) → NeverStops (generates work inputs)
 generates-on work inputs = grind (arith, never-then, tests-on)
 
-made-on : (bench : Bench) (text name : List ℕ) (files : TestFiles) (words : List ℕ)
-    (executable : Option (List ℕ)) → NeverStops (judges_made bench text
-    (record { files = files; executable = executable; words = words }) >>= announces name)
-made-on bench text name files words executable = grind arith
+made-on : (bench : Bench) (test : Test) (files : TestFiles) (words : List ℕ)
+    (executable : Option (List ℕ)) → NeverStops (announces_made bench (Held test)
+    (record { files = files; executable = executable; words = words }))
+made-on bench test files words executable = grind arith
 
 judges-on : (bench : Bench) (passed : ℕ) (tests : List Test)
-    → NeverStops (judges_all bench passed tests)
+    → NeverStops (judges_all bench passed (held tests))
 judges-on bench passed [] = tt
-judges-on bench passed (test ∷ tests) = never-then (judges_one bench test)
-    (λ pass. judges_all bench (with_one passed pass) tests)
-    (let made = made_for bench test in
-    made-on bench test.text test.name made.files made.words made.executable)
+judges-on bench passed (test ∷ tests) = never-then (judges_one bench (Held test))
+    (λ pass. judges_all bench (with_one passed pass) (held tests))
+    (made-on bench test (files_for bench test) (reference_words bench.isa test)
+    (executable_for bench test))
     (λ pass. judges-on bench (with_one passed pass) tests)
 
 pub runs-on : (program work : List ℕ) (inputs : RunInputs) → NeverStops (runs program work inputs)

@@ -140,10 +140,12 @@ by-demo : (words : List (List ℕ)) → InAll IsWithin (demo_of words)
 by-demo words = grind arith
 
 by-options : (names : List (List ℕ)) (of : Values → Option Command) (words : List (List ℕ))
-    → ((values : Values) → InAll IsWithin (of values)) → InAll IsWithin (with_options names of words)
+    → ((values : Values) → InAll IsWithin (of values)) → InAll IsWithin
+    (with_options names of words)
 by-options names of words h = then-in _ _ (λ pairs e. h (λ name. values_of name pairs))
 
-by-name : (program name : List ℕ) (words : List (List ℕ)) → InAll IsWithin (named program name words)
+by-name : (program name : List ℕ) (words : List (List ℕ)) → InAll IsWithin
+    (named program name words)
 by-name program name words =
     either-in (bytes_eq name (codes "compare")) _ _ (by-compare words)
     (either-in (bytes_eq name (codes "validate")) _ _

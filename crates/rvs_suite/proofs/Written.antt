@@ -2,6 +2,7 @@
 use Rattle.std.proofs.Common.{◌≡◌, ◌≢◌, ℕ, Bool, true, false, true≢false, if◌then◌else◌, List, []}
 use Rattle.std.proofs.Common.{◌∷◌, All, Contains, Option, Some, None, is_some, Result, Ok, Err}
 use Rattle.std.proofs.Common.{IfOk, codes, bytes_eq, refl, sym, ap, subst, ◌∙◌, arith, rules}
+use Rattle.std.proofs.lemmas.Bool.{or_parts}
 use Rattle.std.specs.Prelude.{not}
 use Rattle.std.specs.List.{list_any}
 use Rattle.std.proofs.lemmas.List.Elements.{All-nil, All-cons, All-contains}
@@ -19,7 +20,7 @@ use Rattle.rvs_normal.specs.Again.{names_are_apart}
 use Rattle.rvs_normal.specs.Once.{KeysOnce}
 use Rattle.rvs_normal.proofs.ReadAgain.{answer-owned}
 use Rattle.rvs_normal.proofs.Notes.{read-well}
-use Rattle.rvs_normal.proofs.Truths.{both, or-both, not-true}
+use Rattle.rvs_normal.proofs.Truths.{not-true}
 use Rattle.rvs_test.specs.Made.{text_of_label}
 use Rattle.rvs_inputs.specs.Specification.{said_in}
 use Rattle.rvs_inputs.specs.GroupFiles.{Inputs, and_then, text_in, checked_groups, tree_groups}
@@ -29,6 +30,7 @@ use Rattle.rvs_inputs.specs.GroupFiles.{parted_inputs}
 use Rattle.rvs_generate.specs.TestedInputs.{labels_in}
 use Rattle.rvs_parts.specs.Parts.{PartValue, is_in, parted_from}
 use Rattle.std.specs.Prelude.{◌+◌, ◌&&◌, ◌||◌}
+use Rattle.rvs_yaml.proofs.WholeLines.{both_true}
 use Rattle.rvs_generate.specs.Generate.{path_of}
 use Rattle.rvs_suite.specs.Generating.{with_text, with_test, with_tests}
 use Rattle.rvs_generate.proofs.Paths.{same-ending}
@@ -64,13 +66,6 @@ apart-said : (files : Files) (families : Families) (names : List (List ℕ))
     (λ text. inputs_of said.spec (groups_found said.spec families text)))) AreApart
 apart-said files families names (Ok said) = apart-text said.spec families (text_in files None names)
 apart-said files families names (Err stop) = tt
-
-pub apart-inputs : (files : Files) (isa : List ℕ) (families : Families) (names : List (List ℕ))
-    (inputs : Inputs)
-    → inputs_in files isa families names ≡ Ok inputs → names_are_apart inputs.groups ≡ true
-apart-inputs files isa families names inputs given =
-    subst (λ (r : Result Inputs Stop). IfOk r AreApart) given
-    (apart-said files families names (said_in files isa))
 
 -- ---- those of a part
 kept-any : (test : Label → Bool) (b : Bool) (l : Label) (rest : List Label) → test l ≡ false
@@ -151,7 +146,7 @@ kept-tests : (work name : List ℕ) (isa : Isa) (ls : List Label) (files : Optio
     → held (path_of work name) (with_tests work isa ls files) ≡ held (path_of work name) files
 kept-tests work name isa [] files apart = refl
 kept-tests work name isa (l ∷ ls) files apart =
-    let p = or-both (bytes_eq name l.name) (list_any (λ (m : Label). bytes_eq name m.name) ls)
+    let p = or_parts (bytes_eq name l.name) (list_any (λ (m : Label). bytes_eq name m.name) ls)
     apart in
     kept-tests work name isa ls (with_test work isa l files) p.1
     ∙ kept-chosen l.selected (path_of work name) (path_of work l.name) (text_of_label isa l) files
@@ -168,7 +163,7 @@ all-there : (work : List ℕ) (isa : Isa) (ls : List Label) (files : Option File
 all-there work isa [] files told apart = All-nil (Stands work isa files)
 all-there work isa (l ∷ ls) files told apart =
     let later = list_any (λ (m : Label). bytes_eq l.name m.name) ls in
-    let p = both (not later) (names_are_apart ls) apart in
+    let p = both_true (not later) (names_are_apart ls) apart in
     let after = with_test work isa l files in
     All-cons (Stands work isa (with_tests work isa ls after)) l ls
     (λ selected text is. kept-tests work l.name isa ls after (not-true later p.0)

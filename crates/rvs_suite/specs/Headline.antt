@@ -11,10 +11,10 @@ use Rattle.rvs_machine.specs.declared.event.End.TheVariants.{Halted}
 use Rattle.rvs_asm_text.specs.Header.{header_steps}
 use Rattle.rvs_asm.specs.Answer.{answer, Assembles}
 use Rattle.rvs_cgf.specs.Groups.{Label, Point}
-use Rattle.rvs_cgf.specs.Print.{kind_name}
+use Rattle.rvs_points.specs.Kinds.{kind_name}
 use Rattle.rvs_solver.specs.Solving.{IsSolvableAt}
 use Rattle.rvs_log.specs.Logs.{as_entry}
-use Rattle.rvs_count.specs.Counting.{count}
+use Rattle.rvs_index.specs.Counting.{count}
 use Rattle.rvs_test_text.specs.declared.statement.Name.TheVariants.{Case}
 use Rattle.rvs_test_text.specs.Statements.{name_of}
 use Rattle.rvs_test_text.specs.Claim.{symbol_address, IsOnly, words_after}

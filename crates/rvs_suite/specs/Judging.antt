@@ -21,14 +21,15 @@ use Rattle.rvs_generate.specs.TestedInputs.{labels_in}
 use Rattle.rvs_inputs.specs.DeviceInput.{device_in}
 use Rattle.rvs_suite.specs.Headline.{HasProvedTest}
 use Rattle.rvs_suite.specs.Rooms.{AsksForRoom}
-use Rattle.rvs_generate.specs.Tests.{reference_words, executable_of, tests_of}
+use Rattle.rvs_generate.specs.Tests.{reference_words, executable_of, tests_of, held}
 use Rattle.rvs_generate.specs.TestFiles.{IsOther, files_of}
 use Rattle.rvs_run.specs.RunTests.{Bench, files_for, asks_elf, tally_line, verdict_of_all}
 use Rattle.rvs_run.specs.RunTests.{RunInputs, bench_of}
-use Rattle.rvs_suite.specs.RunLeft.{IsRunOf, AreRunsOf, verdict_lines, passed_onto}
-use Rattle.rvs_suite.specs.RunLeft.{with_all_judged, task_of, AreJudged}
+use Rattle.rvs_suite.specs.RunLeft.{Trial, AreTrialsOf, with_trials, trial_lines, trials_passed}
+use Rattle.rvs_suite.specs.RunLeft.{runs_of, AreJudged, IsRunOf, task_of}
 use Rattle.rvs_suite.specs.Signing.{IsSigned}
 use Rattle.rvs_generate.specs.declared.gathering.Test.{Test}
+use Rattle.rvs_generate.specs.declared.sources.Source.{Source}
 use Rattle.rvs_words.specs.declared.command.Command.TheVariants.{Run}
 use Rattle.rvs_words.specs.declared.command.RunArguments.{RunArguments}
 
@@ -44,23 +45,30 @@ run_inputs_in files asked =
 abbrev pub tests_in : RunInputs → List Test
 tests_in inputs = tests_of inputs.groups.isa inputs.groups.groups
 
--- every test was judged by one run of the device, and this is the verdict on all of them
-pub record HasJudged (call : Call) (program work : List ℕ) (end : Finish)
-    (inputs : RunInputs) : Type 0 where
-  pub runs : List DeviceRun
-  pub each : AreRunsOf (bench_of program work inputs) (tests_in inputs) runs
-  pub made : call.new.host.runs ≡ option_map (λ before. before ++ runs) call.old.host.runs
-  pub files : call.new.host.files
-      ≡ option_map (with_all_judged (bench_of program work inputs) (tests_in inputs) runs)
-      call.old.host.files
+-- These trials of the first of the tests, and no other, are what the call has done: its runs, its
+-- files, and its output, between what was said before and a last line.
+pub record HasTried (call : Call) (bench : Bench) (files : Files) (sources : List Source)
+    (trials : List Trial) (said last : List ℕ) : Type 0 where
+  pub each : AreTrialsOf bench files sources trials
+  pub made : call.new.host.runs ≡ option_map (λ before. before ++ runs_of trials) call.old.host.runs
+  pub files_are : call.new.host.files ≡ Some (with_trials trials files)
   pub out : call.new.out.bytes
-      ≡ appended call.old.out.bytes (listing inputs.groups.isa inputs.groups.groups
-      ++ (verdict_lines (bench_of program work inputs) (tests_in inputs) runs
-      ++ tally_line (length (tests_in inputs))
-      (passed_onto (bench_of program work inputs) 0 (tests_in inputs) runs)))
-  pub verdict : end ≡ verdict_of_all (length (tests_in inputs))
-      (passed_onto (bench_of program work inputs) 0 (tests_in inputs) runs)
-  pub means : AreJudged (bench_of program work inputs) end (tests_in inputs) runs
+      ≡ appended call.old.out.bytes (said ++ (trial_lines trials ++ last))
+
+-- every test was judged by one run of the device, and this is the verdict on all of them
+pub record HasJudged (call : Call) (bench : Bench) (files : Files) (sources : List Source)
+    (said : List ℕ) (end : Finish) : Type 0 where
+  pub trials : List Trial
+  pub tried : HasTried call bench files sources trials said
+      (tally_line (length sources) (trials_passed 0 trials))
+  pub verdict : end ≡ verdict_of_all (length sources) (trials_passed 0 trials)
+  pub means : AreJudged bench end trials
+
+-- the tests of groups were, behind what is said of the labels
+abbrev pub HasJudgedTests : Call → Files → RunArguments → RunInputs → Finish → Type 0
+HasJudgedTests call files asked inputs end =
+    HasJudged call (bench_of asked.program asked.work inputs) files (held (tests_in inputs))
+    (listing inputs.groups.isa inputs.groups.groups) end
 
 -- the files of a test that was judged: its text, its executable where the device asks for it, the
 -- words of the reference machine, and what the one run of the device on it left
@@ -86,8 +94,7 @@ pub record Runs (call : Call) (files : Files) (asked : RunArguments) : Type 0 wh
   -- it is done where its inputs are accepted and every test passes, and not passed where a test
   -- doesn't; each was judged; it is refused, or the host fails, at the first input that isn't
   -- accepted, and no test is refused, traps or runs on
-  pub answered : Answered call (run_inputs_in files asked)
-      (λ inputs end. HasJudged call asked.program asked.work end inputs)
+  pub answered : Answered call (run_inputs_in files asked) (HasJudgedTests call files asked)
   -- The headline: where all tests were judged, the file of each label with a point that a choice
   -- hits is there, and of its bytes alone it is a test that hits each such point.
   pub each : (inputs : RunInputs) (l : Label) (k : ℕ) (files' : Files)

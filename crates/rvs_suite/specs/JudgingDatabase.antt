@@ -1,6 +1,6 @@
 -- What every call of `run` over a database promises.
 use Rattle.std.specs.Prelude.{◌≡◌, ◌≢◌, ◌≤◌, ◌⊎◌, ◌↔◌, ℕ, List, [], ◌∷◌, ◌++◌, length, Some}
-use Rattle.std.specs.Prelude.{option_map, None, Result, Ok, Err, All, Contains, IsTrue}
+use Rattle.std.specs.Prelude.{None, Result, Ok, Err, Contains, IsTrue}
 use Rattle.rvs_base.specs.Host.{Files, Tells}
 use Rattle.rvs_base.specs.Sink.{appended}
 use Rattle.rvs_base.specs.declared.host.DeviceRun.{DeviceRun}
@@ -21,17 +21,20 @@ use Rattle.rvs_device.specs.declared.verdicts.TestVerdict.TheVariants.{Pass}
 use Rattle.rvs_suite.specs.Answered.{HasLeft, HasRefused, HasMissed}
 use Rattle.rvs_suite.specs.Call.{Call, world_of, Asks, NothingFailed, HostRose, AnswersOnly}
 use Rattle.rvs_inputs.specs.DatabaseInput.{marked_in}
-use Rattle.rvs_suite.specs.DatabaseLeft.{made_in, Trial, with_trials, AreTrialsOf, task_on}
-use Rattle.rvs_suite.specs.DatabaseLeft.{trial_verdict, trial_lines, trials_passed, runs_of}
 use Rattle.rvs_inputs.specs.DeviceInput.{device_in}
 use Rattle.rvs_inputs.specs.GroupFiles.{and_then}
+use Rattle.rvs_suite.specs.Judging.{HasTried, HasJudged}
 use Rattle.rvs_suite.specs.Referencing.{trial_in}
-use Rattle.rvs_run.specs.RunDatabase.{Given, chosen, made_found, DatabaseInputs, database_bench}
-use Rattle.rvs_run.specs.RunTests.{Bench, asks_elf, tally_line, verdict_of_all}
+use Rattle.rvs_run.specs.RunDatabase.{chosen, DatabaseInputs, database_bench}
+use Rattle.rvs_suite.specs.RunLeft.{made_in, Trial, with_trials, task_on, trial_verdict, HasSpelled}
+use Rattle.rvs_run.specs.RunTests.{Bench, asks_elf, made_found}
 use Rattle.rvs_inputs.specs.Specification.{said_in}
 use Rattle.rvs_generate.specs.TestFiles.{files_at}
 use Rattle.rvs_reference.specs.TestRun.{image_found, limit_of}
+use Rattle.rvs_generate.specs.Tests.{to_read}
 use Rattle.rvs_run.specs.declared.judging.Made.{Made}
+use Rattle.rvs_generate.specs.declared.sources.Given.{Given}
+use Rattle.rvs_generate.specs.declared.sources.Source.TheVariants.{Read}
 use Rattle.rvs_reference.specs.declared.test_run.Run.{Run}
 use Rattle.rvs_words.specs.Commands.{most_steps}
 use Rattle.rvs_words.specs.declared.command.Command.TheVariants.{RunDatabase}
@@ -54,34 +57,11 @@ chosen_in inputs = chosen 0 inputs.entries
 abbrev pub LeftAsItWas : Call → Type 0
 LeftAsItWas call = contents (world_of call.new) ≡ contents (world_of call.old)
 
--- these trials of the first of the tests, and no other, are what the call has done: its runs, its
--- files, and its output, but for a last line
-pub record HasTried (call : Call) (bench : Bench) (files : Files) (given : List Given)
-    (trials : List Trial) (last : List ℕ) : Type 0 where
-  pub each : AreTrialsOf bench files given trials
-  pub made : call.new.host.runs ≡ option_map (λ before. before ++ runs_of trials) call.old.host.runs
-  pub files_are : call.new.host.files ≡ Some (with_trials trials files)
-  pub out : call.new.out.bytes
-      ≡ appended call.old.out.bytes (trial_lines given trials ++ last)
-
--- what the run of a trial left spells the words of the reference machine
-abbrev pub HasSpelled : Bench → Trial → Type 0
-HasSpelled bench t = Spells (task_on bench t.made) t.run.after
-
--- all trials have, where the verdict on all is a pass; one hasn't, where it is none
-abbrev pub AreJudged : Bench → Finish → List Trial → Type 0
-AreJudged bench finish.Done trials = All (HasSpelled bench) trials
-AreJudged bench finish.NotPassed trials =
-    (t : Trial) × Contains trials t × (HasSpelled bench t → ⊥)
-
--- every selected test was judged by one run of the device, and this is the verdict on all of them
-pub record HasJudged (call : Call) (files : Files) (program work : List ℕ) (end : Finish)
-    (inputs : DatabaseInputs) : Type 0 where
-  pub trials : List Trial
-  pub tried : HasTried call (database_bench program work inputs) files (chosen_in inputs) trials
-      (tally_line (length (chosen_in inputs)) (trials_passed 0 trials))
-  pub verdict : end ≡ verdict_of_all (length (chosen_in inputs)) (trials_passed 0 trials)
-  pub means : AreJudged (database_bench program work inputs) end trials
+-- every selected test was judged
+abbrev pub HasJudgedChosen : Call → Files → RunDatabaseArguments → Finish → DatabaseInputs → Type 0
+HasJudgedChosen call files asked end inputs =
+    HasJudged call (database_bench asked.program asked.work inputs) files
+    (to_read (chosen_in inputs)) [] end
 
 -- The tests before one were judged, and the work ended at this one, whose file isn't there or isn't
 -- accepted, whose run trapped, or didn't halt. Nothing was written or put of it, or of those behind
@@ -93,8 +73,8 @@ pub record HasStopped (call : Call) (files : Files) (program work : List ℕ) (s
   pub behind : List Given
   pub all : chosen_in inputs ≡ before ++ given ∷ behind
   pub trials : List Trial
-  pub tried : HasTried call (database_bench program work inputs) files before trials []
-  pub stops : made_in (with_trials trials files) (database_bench program work inputs) given
+  pub tried : HasTried call (database_bench program work inputs) files (to_read before) trials [] []
+  pub stops : made_in (with_trials trials files) (database_bench program work inputs) (Read given)
       ≡ Err stop
   pub line : call.new.err.bytes ≡ appended call.old.err.bytes (line_of stop)
 
@@ -124,7 +104,7 @@ PassesBySpelling bench t =
 pub record HasExecutable (bench : Bench) (files' : Files) (given : Given) : Type 0 where
   pub bytes : List ℕ
   pub made : Made
-  pub made_of : made_found bench given bytes ≡ Ok made
+  pub made_of : made_found bench (files_at bench.work given.place given.name) bytes ≡ Ok made
   pub image : ImageValue
   pub spelt : image_found bench.isa given.name bytes ≡ Ok image
   pub there : files' (files_at bench.work given.place given.name).executable
@@ -145,9 +125,9 @@ pub record RunsDatabase (call : Call) (files : Files) (asked : RunDatabaseArgume
   -- it is done where its inputs are accepted and each selected test was judged and passes, and not
   -- passed where each was judged and one doesn't pass
   pub done : call.status ≡ Done → HasLeft (database_inputs_in files asked)
-      (HasJudged call files asked.program asked.work finish.Done)
+      (HasJudgedChosen call files asked finish.Done)
   pub not_passed : call.status ≡ NotPassed → HasLeft (database_inputs_in files asked)
-      (HasJudged call files asked.program asked.work finish.NotPassed)
+      (HasJudgedChosen call files asked finish.NotPassed)
   -- it is refused where an input is, and has changed nothing, or where a selected test is, behind
   -- the verdicts before it
   pub refused : call.status ≡ Refused
@@ -165,7 +145,7 @@ pub record RunsDatabase (call : Call) (files : Files) (asked : RunDatabaseArgume
       → NothingFailed call → AnswersOnly call HostFault
   -- a test is run as by `reference`
   pub runs : (files' : Files) (bench : Bench) (given : Given) (made : Made)
-      → made_in files' bench given ≡ Ok made → IsMadeOf files' bench given made
+      → made_in files' bench (Read given) ≡ Ok made → IsMadeOf files' bench given made
   -- the run of whatever a test's file holds is ended after 2,000,000 instructions at most
   pub limited : (name bytes : List ℕ) → limit_of None name bytes ≤ most_steps
   -- a pass says that the device left the reference's words
@@ -182,7 +162,7 @@ pub record RunsDatabase (call : Call) (files : Files) (asked : RunDatabaseArgume
   pub alone : (inputs : DatabaseInputs) (given : Given) (made : Made) (before : List DeviceRun)
       (run : DeviceRun) → database_inputs_in files asked ≡ Ok inputs
       → chosen_in inputs ≡ given ∷ []
-      → made_in files (database_bench asked.program asked.work inputs) given ≡ Ok made
+      → made_in files (database_bench asked.program asked.work inputs) (Read given) ≡ Ok made
       → call.old.host.runs ≡ Some before → call.new.host.runs ≡ Some (before ++ run ∷ [])
       → Spells (task_on (database_bench asked.program asked.work inputs) made) run.after
       → NothingFailed call

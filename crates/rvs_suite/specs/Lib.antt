@@ -19,7 +19,6 @@ pub mod RunLeft
 pub mod Signing
 pub mod Judging
 pub mod Selecting
-pub mod DatabaseLeft
 pub mod JudgingDatabase
 pub mod Reporting
 pub mod Demonstrating

@@ -17,18 +17,19 @@ use Rattle.rvs_suite.specs.Reporting as reporting
 use Rattle.rvs_suite.specs.Selecting as selecting
 use Rattle.rvs_suite.specs.Demonstrating as demonstrating
 
--- The first facts are of every call. Each other is of the calls whose words ask for its command: what
--- the answer means, what leads to it, and what is left. Where a call tells its progress, what is said
--- of a line for errors and of faults is said as from the time when that was told.
+-- The first facts are of every call. Each other is of the calls whose words ask for its command:
+-- what the answer means, what leads to it, and what is left. Where a call tells its progress, what
+-- is said of a line for errors and of faults is said as from the time when that was told.
 pub record Promise (call : Call) : Type 0 where
   -- what the sink for errors had when the work had ended: what it had before, unless the words ask
   -- for progress
   pub told : SinkState
   pub progress : progressing.Promise call told
-  -- over told files, what was done is a beginning of the effects that the words mean, and the status
-  -- is theirs
+  -- over told files, what was done is a beginning of the effects that the words mean, and the
+  -- status is theirs
   pub planned : following.Promise (progressing.behind call told)
-  -- over any host and any sinks, each answer has its cause and its line, and no fault is passed over
+  -- over any host and any sinks, each answer has its cause and its line, and no fault is passed
+  -- over
   pub causes : answering.Promise (progressing.behind call told)
   -- it passes where both files spell the same words, and fails where they differ
   pub compare : comparing.Promise call

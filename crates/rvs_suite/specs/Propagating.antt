@@ -7,8 +7,8 @@ use Rattle.rvs_plan.specs.declared.status.Status.TheVariants.{Done}
 use Rattle.rvs_insn.specs.Isa.{Isa}
 use Rattle.rvs_log.specs.Entries.{entries_of}
 use Rattle.rvs_cgf.specs.Groups.{Label, Point}
-use Rattle.rvs_cgf.specs.Valid.{IsValid}
-use Rattle.rvs_count.specs.Counting.{Aim, aims_of, hits}
+use Rattle.rvs_points.specs.Valid.{IsValid}
+use Rattle.rvs_index.specs.Counting.{Aim, aims_of, hits}
 use Rattle.rvs_prop.specs.Acts.{Act, acts_of}
 use Rattle.rvs_prop.specs.Reach.{reached, saves_register, target_of}
 use Rattle.rvs_prop.specs.Report.{report_of}

@@ -3,7 +3,7 @@ use Rattle.std.specs.Prelude.{◌≡◌, ◌<◌, List, ℕ, length, map, Contai
 use Rattle.std.specs.List.{flat_map}
 use Rattle.rvs_insn.specs.Isa.{Isa}
 use Rattle.rvs_cgf.specs.Groups.{Label, Point}
-use Rattle.rvs_cgf.specs.Valid.{IsValid}
+use Rattle.rvs_points.specs.Valid.{IsValid}
 use Rattle.rvs_solver.specs.Solving.{IsSolvableAt}
 use Rattle.rvs_test_text.specs.declared.claim.Claim.{Claim}
 use Rattle.rvs_test.specs.Made.{claims_of, unsolved_of, cases_of, text_of_label}

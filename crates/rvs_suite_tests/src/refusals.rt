@@ -1,7 +1,7 @@
 // The text that says to users what refusals mean: whether it has each number of each kind once.
 use rvs_abstract::AbstractRefusal;
 use rvs_asm::AsmKind;
-use rvs_base::release;
+use rvs_base::{Text, release};
 use rvs_cgf::CgfKind;
 use rvs_cross::CrossRefusal;
 use rvs_device::DeviceRefusal;
@@ -20,10 +20,10 @@ const KINDS: [&str; 13] = [
 ];
 
 fn asm_end() -> u8 {
-    let kind = AsmKind::NoMemory;
+    let kind = AsmKind::BadRegion;
     let number = kind.number();
     release(kind);
-    number
+    number.saturating_add(1)
 }
 
 fn cgf_end() -> u8 {
@@ -40,34 +40,36 @@ fn cross_end() -> u8 {
     number
 }
 
-fn device_end() -> u8 {
-    let kind = DeviceRefusal::NoMemory;
+fn device_end(alloc: Global) -> u8 {
+    let kind = DeviceRefusal::UnknownPlaceholder {
+        word: Text::new(alloc),
+    };
     let number = kind.number();
     release(kind);
-    number
+    number.saturating_add(1)
 }
 
 fn elf_end() -> u8 {
-    let kind = ElfRefusal::NoMemory;
+    let kind = ElfRefusal::BadRegion;
     let number = kind.number();
     release(kind);
-    number
+    number.saturating_add(1)
 }
 
 /// The number behind the last one of each kind. For most it is that of want of memory, which a line
 /// of its own tells; the kinds of signature files have no numbers in code.
-fn ends() -> [u8; 13] {
+fn ends(alloc: Global) -> [u8; 13] {
     [
         AbstractRefusal::BadSize.number().saturating_add(1),
         asm_end(),
         cgf_end(),
         cross_end(),
-        SelectKind::NoMemory.number(),
-        device_end(),
+        SelectKind::TooManyTests.number().saturating_add(1),
+        device_end(alloc),
         elf_end(),
         ExprKind::NoMemory.number(),
-        ImageKind::NoMemory.number(),
-        IsaKind::NoMemory.number(),
+        ImageKind::TooLarge.number().saturating_add(1),
+        IsaKind::BadMemory.number().saturating_add(1),
         3,
         TrapKind::Ebreak.number().saturating_add(1),
         YamlKind::NoMemory.number(),
@@ -100,7 +102,7 @@ fn tell_kind(
 
 /// For each kind how many lines the text has, and its numbers that have none or several.
 pub fn tell(alloc: Global, text: &str) -> Result<String, Fail> {
-    let ends = ends();
+    let ends = ends(alloc);
     let mut report = String::new(alloc);
     for at in 0..KINDS.len() {
         tell_kind(alloc, text, (KINDS[at], ends[at]), &mut report)?;

@@ -37,22 +37,6 @@ gone P o h k = grind arith
 abbrev OfThree : Type 1
 OfThree = Option ℕ → Option ℕ → Option ℕ → Type 0
 
-all_three : (P : OfThree) (d a b : Option ℕ) → IsField true d → IsField true a → IsField true b
-    → ((x y z : ℕ) → x < 32 → y < 32 → z < 32 → P (Some x) (Some y) (Some z)) → P d a b
-all_three P d a b p q r k = grind (arith, there, Some)
-
-first_two : (P : OfThree) (d a b : Option ℕ) → IsField true d → IsField true a → IsField false b
-    → ((x y : ℕ) → x < 32 → y < 32 → P (Some x) (Some y) None) → P d a b
-first_two P d a b p q r k = grind (arith, there, Some, gone)
-
-last_two : (P : OfThree) (d a b : Option ℕ) → IsField false d → IsField true a → IsField true b
-    → ((y z : ℕ) → y < 32 → z < 32 → P None (Some y) (Some z)) → P d a b
-last_two P d a b p q r k = grind (arith, gone, there, None, Some)
-
-first_alone : (P : OfThree) (d a b : Option ℕ) → IsField true d → IsField false a → IsField false b
-    → ((x : ℕ) → x < 32 → P (Some x) None None) → P d a b
-first_alone P d a b p q r k = grind (arith, there, gone, Some, None)
-
 no_register : (P : OfThree) (d a b : Option ℕ) → IsField false d → IsField false a
     → IsField false b → P None None None → P d a b
 no_register P d a b p q r k = grind (arith, gone, None)

@@ -7,10 +7,10 @@ use Rattle.std.proofs.lemmas.List.{length-map}
 use Rattle.std.proofs.lemmas.List.Sums.{sum_by-take-le}
 use Rattle.std.proofs.lemmas.Option.{slice_get_cases}
 use Rattle.rvs_insn.specs.Isa.{Isa}
-use Rattle.rvs_cgf.specs.declared.group.Point.{Point as CodePoint}
-use Rattle.rvs_cgf.specs.declared.group.Label.{Label as CodeLabel}
-use Rattle.rvs_cgf.specs.GroupView.{point_view, label_view}
-use Rattle.rvs_cgf.specs.Groups.{Point, Label}
+use Rattle.rvs_points.specs.declared.group.Point.{Point as CodePoint}
+use Rattle.rvs_points.specs.declared.group.Label.{Label as CodeLabel}
+use Rattle.rvs_points.specs.PointView.{point_view, label_view}
+use Rattle.rvs_points.specs.Points.{Point, Label}
 use Rattle.rvs_solver.specs.Solving.{bound_of_point, bound_of_label, bound_at}
 use Rattle.rvs_solver.specs.Solving.{bound_or_none}
 use Rattle.rvs_cross.proofs.Searching.{sum_turn}

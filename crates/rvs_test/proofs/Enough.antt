@@ -4,8 +4,8 @@ use Rattle.std.proofs.Common.{get_or, ap, ◌∙◌, arith, rules}
 use Rattle.std.proofs.lemmas.Bool.Decides.{nat_tests}
 use Rattle.rvs_insn.specs.Isa.{Isa}
 use Rattle.rvs_insn.specs.Memory.{Memory, HasRoom}
-use Rattle.rvs_cgf.specs.Groups.{Label}
-use Rattle.rvs_cgf.specs.Valid.{IsValid}
+use Rattle.rvs_points.specs.Points.{Label}
+use Rattle.rvs_points.specs.Valid.{IsValid}
 use Rattle.rvs_solver.specs.declared.solved.Solved.{Solved}
 use Rattle.rvs_test_text.specs.TestText.{bytes_all, case_statements, cases, last_register}
 use Rattle.rvs_test_text.specs.TestText.{code_part}

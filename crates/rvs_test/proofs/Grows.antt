@@ -5,9 +5,9 @@ use Rattle.std.proofs.Common.{append-nil}
 use Rattle.std.specs.Prelude.{◌-◌, All, OnOk, Result, Some, slice_get, unwrap_or}
 use Rattle.std.proofs.lemmas.Option.{slice_get_within, get_or_from_slice_get}
 use Rattle.rvs_insn.specs.Fields.{Fields}
-use Rattle.rvs_cgf.specs.GroupView.{point_view, label_view}
-use Rattle.rvs_cgf.specs.declared.group.Point.{Point as Point'}
-use Rattle.rvs_cgf.specs.declared.group.Label.{Label as Label'}
+use Rattle.rvs_points.specs.PointView.{point_view, label_view}
+use Rattle.rvs_points.specs.declared.group.Point.{Point as Point'}
+use Rattle.rvs_points.specs.declared.group.Label.{Label as Label'}
 use Rattle.rvs_solver.proofs.Labels.{point_there}
 use Rattle.rvs_insn.specs.Isa.{Isa}
 use Rattle.rvs_insn.specs.declared.op.Format.{Format}

@@ -6,7 +6,7 @@ use Rattle.std.specs.Prelude.{ℤ, filter, find, flat_map, is_some, option_map, 
 use Rattle.std.specs.Prelude.{option_to_list, slice_get, All, Contains}
 use Rattle.std.proofs.Common.{inl, inr, rules}
 use Rattle.std.specs.List.{range_with_len}
-use Rattle.std.proofs.lemmas.Bool.{eq-eqb}
+use Rattle.std.proofs.lemmas.Bool.{eq-eqb, and_from, or_left, or_right}
 use Rattle.rvs_insn.specs.declared.op.Op.{Op}
 use Rattle.rvs_insn.specs.Memory.{Memory, HasRoom}
 use Rattle.rvs_insn.specs.Isa.{Isa}
@@ -26,12 +26,12 @@ use Rattle.rvs_cross.specs.Cross.{Place}
 use Rattle.rvs_cross.specs.Sequences.{first_sequence}
 use Rattle.rvs_cross.specs.Sequences as cross
 use Rattle.rvs_cross.proofs.Solved.{sequence_solves, nothing_solves}
-use Rattle.rvs_cgf.specs.declared.group.Kind.{Kind}
-use Rattle.rvs_cgf.specs.Groups as groups
-use Rattle.rvs_cgf.specs.Groups.{Meaning, op_is, reg_is, regs, nums, window, Label}
-use Rattle.rvs_cgf.specs.Hits.{is_register, field_of, is_meant, has_op}
-use Rattle.rvs_cgf.specs.Hits as points
-use Rattle.rvs_cgf.specs.Valid.{IsValid}
+use Rattle.rvs_points.specs.declared.group.Kind.{Kind}
+use Rattle.rvs_points.specs.Points as groups
+use Rattle.rvs_points.specs.Points.{Meaning, op_is, reg_is, regs, nums, window, Label}
+use Rattle.rvs_points.specs.Hits.{is_register, field_of, is_meant, has_op}
+use Rattle.rvs_points.specs.Hits as points
+use Rattle.rvs_points.specs.Valid.{IsValid}
 use Rattle.rvs_solver.specs.Choices.{ChoiceValue, choice_of, fields_of, table_of, is_kept}
 use Rattle.rvs_solver.specs.Choices.{is_same as is_same_register, numbers, registers}
 use Rattle.rvs_solver.specs.Choices.{with_registers, choices}
@@ -43,7 +43,7 @@ use Rattle.rvs_solver.specs.declared.solved.Solved.{Solved}
 use Rattle.rvs_solver.specs.declared.solved.Solved.TheVariants.{One, Many}
 use Rattle.rvs_solver.proofs.Search.{Each}
 use Rattle.rvs_solver.proofs.Product.{each_append, each_flat, each_map, each_any}
-use Rattle.rvs_solver.proofs.Operands.{all_from_each}
+use Rattle.rvs_solver.proofs.Operands.{all_from_each, each_then}
 use Rattle.rvs_solver.proofs.OneWord.{found_hits, found_each}
 use Rattle.rvs_solver.proofs.Answer.{nothing_hits}
 use Rattle.rvs_test_text.specs.declared.claim.Claim.{Claim}
@@ -61,12 +61,6 @@ use Rattle.rvs_test_text.proofs.Main.{tests_run, steps_high}
 
 same_self : (op : Op) → is_same op op ≡ true
 same_self op = eq-eqb (number op) (number op) refl
-
-or_left : (s t : Bool) → s ≡ true → (s || t) ≡ true
-or_left s t h = rw h refl
-
-or_right : (s t : Bool) → t ≡ true → (s || t) ≡ true
-or_right s t h = grind arith
 
 kept_too : {X : Type 0} (P : X → Type 0) (t : Bool) (x : X) (rest : List X) → P x → Each P rest
     → Each P (cond t (x ∷ rest) rest)
@@ -88,23 +82,18 @@ own_op isa op constants =
     (numbers isa op (row op).form constants (is_same_register r.rs1 r.rs2)) (each_any _))
     (registers isa.e (row op).form) (each_any (registers isa.e (row op).form)))
 
-weaker_each : {X : Type 0} (P Q : X → Type 0) → ((x : X) → P x → Q x) → (xs : List X) → Each P xs
-    → Each Q xs
-weaker_each P Q h [] a = tt
-weaker_each P Q h (x ∷ xs) a = (h x a.0, weaker_each P Q h xs a.1)
-
 listed : (isa : Isa) (ops : List Op) (constants : List ℤ)
     → Each (λ (c : ChoiceValue). has_op ops c.op ≡ true) (all_choices isa ops constants)
 listed isa [] constants = tt
 listed isa (op ∷ ops) constants =
     each_append (λ (c : ChoiceValue). has_op (op ∷ ops) c.op ≡ true) (choices isa op constants)
     (all_choices isa ops constants)
-    (weaker_each (λ (c : ChoiceValue). c.op ≡ op)
+    (each_then (λ (c : ChoiceValue). c.op ≡ op)
     (λ (c : ChoiceValue). has_op (op ∷ ops) c.op ≡ true)
     (λ c e. or_left (is_same c.op op) (has_op ops c.op)
     (ap (λ x. is_same x op) e ∙ same_self op)) (choices isa op constants)
     (own_op isa op constants))
-    (weaker_each (λ (c : ChoiceValue). has_op ops c.op ≡ true)
+    (each_then (λ (c : ChoiceValue). has_op ops c.op ≡ true)
     (λ (c : ChoiceValue). has_op (op ∷ ops) c.op ≡ true)
     (λ c h. or_right (is_same c.op op) (has_op ops c.op) h) (all_choices isa ops constants)
     (listed isa ops constants))
@@ -127,9 +116,6 @@ meant_more : (k : Kind) (m : Meaning) (c : ChoiceValue) (v1 v2 : ℕ)
     → Extends (table_of c) (facts_of (fields_of c) v1 v2) → is_meant k m c.op (table_of c) ≡ true
     → is_meant k m c.op (facts_of (fields_of c) v1 v2) ≡ true
 meant_more k m c v1 v2 e h = search (rules, same_field, more_true)
-
-both_true : (s t : Bool) → s ≡ true → t ≡ true → (s && t) ≡ true
-both_true s t h k = rw (h, k) refl
 
 -- ---- a case that was hit keeps its claim
 
@@ -173,7 +159,8 @@ by_choice isa l image o j k c p at single found i =
             insn = fields_of c;
             decoded = head_is (insn_of_word e.word) (Some (fields_of c)) (insns_of i.more) [] whole;
             hit =
-                both_true (has_op l.ops c.op) (points.holds p c.op (facts_of (fields_of c) e.v1 e.v2))
+                and_from (has_op l.ops c.op)
+                (points.holds p c.op (facts_of (fields_of c) e.v1 e.v2))
                 (found_each (hits p.kind p.meaning) (λ (x : ChoiceValue). has_op l.ops x.op ≡ true)
                 (all_choices isa l.ops (constants_of p.meaning)) c
                 (listed isa l.ops (constants_of p.meaning)) found)

@@ -11,11 +11,11 @@ use Rattle.rvs_insn.specs.Memory.{HasRoom}
 use Rattle.rvs_base.specs.Digits.{digits_of}
 use Rattle.rvs_base.specs.Lines.{before, after}
 use Rattle.rvs_base.proofs.Readings.{digits_of-decimal}
-use Rattle.rvs_cgf.specs.Print.{kind_name}
-use Rattle.rvs_cgf.specs.Groups as groups
-use Rattle.rvs_cgf.specs.Groups.{Label}
-use Rattle.rvs_cgf.specs.Valid.{IsValid}
-use Rattle.rvs_cgf.specs.declared.group.Kind.{Kind}
+use Rattle.rvs_points.specs.Kinds.{kind_name}
+use Rattle.rvs_points.specs.Points as groups
+use Rattle.rvs_points.specs.Points.{Label}
+use Rattle.rvs_points.specs.Valid.{IsValid}
+use Rattle.rvs_points.specs.declared.group.Kind.{Kind}
 use Rattle.rvs_solver.specs.declared.solved.Solved.{Solved}
 use Rattle.rvs_test_text.specs.declared.claim.Claim.{Claim}
 use Rattle.rvs_test_text.specs.declared.statement.Name.{Name}
@@ -68,22 +68,10 @@ claim_back k p small h =
 
 -- ---- a kind is one word
 
-kind_test : (k : Kind) → list_all is_clean (kind_name k) ≡ true
-kind_test k = grind arith
-
 named_clean : (o : Option groups.Point) → All is_clean (named_or_none o).kind
 named_clean o = grind arith
 
 -- ---- the lines of the statements claim nothing
-
-written_silent : (w : List ℕ) (ts : List (List ℕ)) → behind_front (written w ts) ≡ None
-written_silent w ts = grind arith
-
-name_silent : (n : Name) → behind_front (name_of n ++ 58 ∷ []) ≡ None
-name_silent n = grind arith
-
-fixed_silent : (f : Fixed) → behind_front (fixed_text f) ≡ None
-fixed_silent f = grind arith
 
 silent : (s : Statement) → behind_front (printed s) ≡ None
 silent s = grind arith

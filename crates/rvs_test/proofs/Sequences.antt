@@ -17,10 +17,10 @@ use Rattle.rvs_cross.specs.Sequences.{in_format, insns_of, first_sequence}
 use Rattle.rvs_cross.specs.Sequences as cross
 use Rattle.rvs_cross.proofs.Few.{read_places}
 use Rattle.rvs_cross.proofs.Solved.{sequence_solves}
-use Rattle.rvs_cgf.specs.Groups.{window, means, says, Point}
-use Rattle.rvs_cgf.specs.Valid.{IsMeant}
-use Rattle.rvs_cgf.specs.declared.group.Kind.{Kind}
-use Rattle.rvs_cgf.proofs.Saying.{said_by}
+use Rattle.rvs_points.specs.Points.{window, means, says, Point}
+use Rattle.rvs_points.specs.Valid.{IsMeant}
+use Rattle.rvs_points.specs.declared.group.Kind.{Kind}
+use Rattle.rvs_points.proofs.Saying.{said_by}
 use Rattle.rvs_solver.proofs.Search.{Each}
 use Rattle.rvs_solver.proofs.Product.{each_flat, each_map}
 use Rattle.rvs_solver.proofs.Operands.{each_then}

@@ -15,12 +15,12 @@ use Rattle.rvs_insn.specs.Fields.{Fields}
 use Rattle.rvs_cross.specs.Cross.{Place}
 use Rattle.rvs_cross.specs.Sequences.{first_sequence}
 use Rattle.rvs_asm_text.specs.Text.{is_text_byte}
-use Rattle.rvs_cgf.specs.Keys.{is_name_byte, is_label_name}
-use Rattle.rvs_cgf.specs.Print.{kind_name}
-use Rattle.rvs_cgf.specs.Valid.{IsMeant, IsValid}
-use Rattle.rvs_cgf.specs.declared.group.Kind.{Kind}
-use Rattle.rvs_cgf.specs.Groups as groups
-use Rattle.rvs_cgf.specs.Groups.{Meaning, op_is, reg_is, regs, nums, window, Label}
+use Rattle.rvs_points.specs.Keys.{is_name_byte, is_label_name}
+use Rattle.rvs_points.specs.Kinds.{kind_name}
+use Rattle.rvs_points.specs.Valid.{IsMeant, IsValid}
+use Rattle.rvs_points.specs.declared.group.Kind.{Kind}
+use Rattle.rvs_points.specs.Points as groups
+use Rattle.rvs_points.specs.Points.{Meaning, op_is, reg_is, regs, nums, window, Label}
 use Rattle.rvs_solver.specs.Choices.{ChoiceValue}
 use Rattle.rvs_solver.specs.First.{first_choice}
 use Rattle.rvs_solver.specs.Solving.{IsSingle, first_meant, first_of_point, first_at}
@@ -74,12 +74,6 @@ alone : (isa : Isa) (l : Label) (k : ℕ) (s : Solved) (p : groups.Point) (m : M
     → slice_get l.points k ≡ Some p → p.meaning ≡ m → IsSingle m
     → option_map One (first_choice isa l.ops p.kind m) ≡ Some s → IsFirst isa l k s
 alone isa l k s p m at means single h = grind (arith, chosen)
-
--- by what the point means
-by_meaning : (isa : Isa) (l : Label) (k : ℕ) (s : Solved) (p : groups.Point) (m : Meaning)
-    → slice_get l.points k ≡ Some p → p.meaning ≡ m → first_meant isa l.ops p.kind m ≡ Some s
-    → IsFirst isa l k s ⊎ IsFirstWindow isa l k s
-by_meaning isa l k s p m at means h = grind arith
 
 pointed : (isa : Isa) (l : Label) (k : ℕ) (s : Solved) (o : Option groups.Point)
     → slice_get l.points k ≡ o → option_and_then (first_of_point isa l) o ≡ Some s

@@ -14,8 +14,8 @@ use Rattle.rvs_asm.specs.Answer.{Assembles}
 use Rattle.rvs_facts.specs.Facts.{facts_of}
 use Rattle.rvs_cross.specs.Cross.{Place}
 use Rattle.rvs_cross.specs.Windows.{matches}
-use Rattle.rvs_cgf.specs.Groups.{Meaning, window, Point, Label}
-use Rattle.rvs_cgf.specs.Hits.{hits}
+use Rattle.rvs_points.specs.Points.{Meaning, window, Point, Label}
+use Rattle.rvs_points.specs.Hits.{hits}
 use Rattle.rvs_solver.specs.Solving.{IsSolvableAt}
 use Rattle.rvs_test_text.specs.declared.claim.Claim.{Claim}
 use Rattle.rvs_test_text.specs.declared.statement.Name.TheVariants.{Case}

@@ -3,9 +3,9 @@ use Rattle.std.specs.Prelude.{◌≡◌, ℕ, ◌+◌, Bool, not, List, [], ◌�
 use Rattle.std.specs.Prelude.{Option, Some, None, option_to_list, is_some, slice_get}
 use Rattle.std.specs.List.{range_with_len}
 use Rattle.rvs_insn.specs.Isa.{Isa}
-use Rattle.rvs_cgf.specs.Print.{kind_name}
-use Rattle.rvs_cgf.specs.Groups as groups
-use Rattle.rvs_cgf.specs.Groups.{Label}
+use Rattle.rvs_points.specs.Kinds.{kind_name}
+use Rattle.rvs_points.specs.Points as groups
+use Rattle.rvs_points.specs.Points.{Label}
 use Rattle.rvs_solver.specs.declared.solved.Solved.{Solved}
 use Rattle.rvs_solver.specs.Solving.{first_at}
 use Rattle.rvs_test_text.specs.declared.claim.Claim.{Claim}

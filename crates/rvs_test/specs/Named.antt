@@ -6,7 +6,7 @@ use Rattle.rvs_base.specs.Digits.{digits_of}
 use Rattle.rvs_base.specs.Lines.{before, after}
 use Rattle.rvs_asm_text.specs.Text.{lines_of}
 use Rattle.rvs_asm_text.specs.Header.{after_front}
-use Rattle.rvs_cgf.specs.Groups.{Label}
+use Rattle.rvs_points.specs.Points.{Label}
 use Rattle.rvs_test_text.specs.declared.claim.Claim.{Claim}
 use Rattle.rvs_test.specs.Made.{named_at}
 

@@ -2,17 +2,17 @@
 ghost use Rattle.std.specs.Prelude.{◌≡◌, ◌≤◌, ◌<◌, ◌+◌, ◌++◌, ◌∷◌, [], IfOk, length, take, sum_by};
 ghost use Rattle.std.specs.Prelude.{option_to_list};
 ghost use Rattle.std.specs.List.{range_with_len};
-ghost use Rattle.rvs_cgf.specs.GroupView.{label_view, point_view};
-ghost use Rattle.rvs_cgf.specs.Valid.{IsValid};
+ghost use Rattle.rvs_points.specs.PointView.{label_view, point_view};
+ghost use Rattle.rvs_points.specs.Valid.{IsValid};
 ghost use Rattle.rvs_solver.specs.Solving.{first_at, bound_of_label};
 ghost use Rattle.rvs_test.specs.Made.{places, claims_of, unsolved_of, cases_of};
 ghost use Rattle.rvs_test.specs.Found.{FoundValue, found_view, found_before, nothing_found};
 ghost use Rattle.rvs_test.specs.Found.{with_one};
 
 use rvs_base::{Items, NoMemory};
-use rvs_cgf::Label;
 use rvs_expr::Steps;
 use rvs_insn::IsaSpec;
+use rvs_points::Label;
 use rvs_solver::{Solved, solve};
 use rvs_test_text::Claim;
 use std::alloc::Global;

@@ -1,8 +1,8 @@
 // The test of a label.
 ghost use Rattle.std.specs.Prelude.{◌≡◌, ◌≤◌, ◌<◌, ◌+◌, ◌*◌, ◌^◌, ℕ, false, length, map, Contains};
 ghost use Rattle.std.specs.Prelude.{IfOk, IfSome, IsTrue, Some, pos, unwrap_or};
-ghost use Rattle.rvs_cgf.specs.GroupView.{label_view};
-ghost use Rattle.rvs_cgf.specs.Valid.{IsValid};
+ghost use Rattle.rvs_points.specs.PointView.{label_view};
+ghost use Rattle.rvs_points.specs.Valid.{IsValid};
 ghost use Rattle.rvs_solver.specs.Solving.{IsSolvableAt, bound_of_label};
 ghost use Rattle.rvs_test_text.specs.TestText as layout;
 ghost use Rattle.rvs_test.specs.Made as made;
@@ -10,15 +10,15 @@ ghost use Rattle.rvs_test.specs.Made.{claims_of, unsolved_of, cases_of, text_for
 ghost use Rattle.rvs_test.specs.Made.{named_at};
 ghost use Rattle.rvs_test.specs.Claimed.{TestRuns, IsAccounted};
 ghost use Rattle.rvs_test.specs.Named.{claims_read, named_claim};
-ghost use Rattle.rvs_cgf.specs.Limits.{most_points};
+ghost use Rattle.rvs_points.specs.Limits.{most_points};
 
 use crate::finding::{Found, find_cases};
 use crate::made::Made;
 use crate::writing::{push_claims, push_code, push_data, push_front};
 use rvs_base::{NoMemory, Text};
-use rvs_cgf::Label;
 use rvs_expr::Steps;
 use rvs_insn::{Format, IsaSpec, format};
+use rvs_points::Label;
 use rvs_solver::Solved;
 use rvs_test_text::Claim;
 use std::alloc::Global;

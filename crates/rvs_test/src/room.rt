@@ -1,9 +1,9 @@
 // Whether the regions of a core have room for a test.
 ghost use Rattle.std.specs.Prelude.{◌≡◌, ◌≤◌, ◌+◌, IfOk};
 ghost use Rattle.rvs_insn.specs.Memory.{HasRoom};
-ghost use Rattle.rvs_cgf.specs.GroupView.{label_view};
-ghost use Rattle.rvs_cgf.specs.Limits.{most_points};
-ghost use Rattle.rvs_cgf.specs.Valid.{IsValid};
+ghost use Rattle.rvs_points.specs.PointView.{label_view};
+ghost use Rattle.rvs_points.specs.Limits.{most_points};
+ghost use Rattle.rvs_points.specs.Valid.{IsValid};
 ghost use Rattle.rvs_solver.specs.Solving.{bound_of_label};
 ghost use Rattle.rvs_test.specs.Made as made;
 ghost use Rattle.rvs_test.specs.Room.{hold};
@@ -11,9 +11,9 @@ ghost use Rattle.rvs_test.specs.Room.{hold};
 use crate::finding::find_cases;
 use crate::sizes::code_bytes;
 use rvs_base::NoMemory;
-use rvs_cgf::Label;
 use rvs_expr::Steps;
 use rvs_insn::IsaSpec;
+use rvs_points::Label;
 use std::alloc::Global;
 use std::sync::ledger::Ledger;
 

@@ -1,7 +1,7 @@
 // How many bytes of code the cases of a test have.
 ghost use Rattle.std.specs.Prelude.{◌≡◌, ◌≤◌, ◌+◌, ◌^◌, ℕ, [], length};
 ghost use Rattle.rvs_insn.specs.Fields.{Fields};
-ghost use Rattle.rvs_cgf.specs.Limits.{most_points};
+ghost use Rattle.rvs_points.specs.Limits.{most_points};
 ghost use Rattle.rvs_test_text.specs.TestText as layout;
 ghost use Rattle.rvs_test_text.specs.TestText.{bytes_all};
 ghost use Rattle.rvs_test_text.specs.Claim.{AreReady};

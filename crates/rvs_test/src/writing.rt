@@ -1,19 +1,19 @@
 // The text of a test.
 ghost use Rattle.std.specs.Prelude.{◌≡◌, ◌<◌, ◌≤◌, ◌+◌, ◌++◌, ◌∷◌, [], All, IfOk, OnOk};
 ghost use Rattle.std.specs.Prelude.{MatchOption, Some, length, map, false, codes};
-ghost use Rattle.rvs_cgf.specs.GroupView.{label_view, point_view};
+ghost use Rattle.rvs_points.specs.PointView.{label_view, point_view};
 ghost use Rattle.rvs_test_text.specs.TestText as layout;
 ghost use Rattle.rvs_test_text.specs.TestText.{text_of, ended};
 ghost use Rattle.rvs_test_text.specs.Claim.{IsReady, AreReady};
 ghost use Rattle.rvs_test.specs.Made.{named, named_at};
-ghost use Rattle.rvs_cgf.specs.Limits.{most_points};
+ghost use Rattle.rvs_points.specs.Limits.{most_points};
 
 use crate::case_lines::case_statements;
 use crate::printing::{push_line, push_statements};
 use crate::shorthands::{addi, jal, sw};
 use rvs_base::{NoMemory, Text};
-use rvs_cgf::{Label, Point};
 use rvs_insn::{IsaSpec, isa_text};
+use rvs_points::{Label, Point};
 use rvs_solver::Solved;
 use rvs_test_text::{Claim, Fixed, Name, Statement};
 use std::alloc::Global;

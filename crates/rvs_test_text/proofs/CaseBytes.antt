@@ -55,9 +55,6 @@ store_tail k c =
     Label (CaseName k) ∷ Plain (fields_of c)
     ∷ (copy_word (pointer c) (marker c) k (pos 0) ++ copy_word (pointer c) (marker c) k (pos 4))
 
-store_bytes_are : (k : ℕ) (c : ChoiceValue) → StoreRegisters c → bytes_all (store_case k c) ≡ 84
-store_bytes_are k c r = grind (arith, source_size, source_bytes)
-
 abbrev pub atomic_tail : ℕ → ChoiceValue → List Statement
 atomic_tail k c =
     Label (CaseName k) ∷ Plain (fields_of c)
@@ -88,26 +85,14 @@ pub case_bytes : (isa : Isa) (k : ℕ) (c : ChoiceValue) → IsMade isa c
     → bytes_all (choice_statements k c) ≡ case_size c
 case_bytes isa k c is = bytes_by (row c.op).form k c refl is.sound.encodable
 
-frame_most : (z : ℤ) → IsNearby z → frame_size z ≤ 2064
-frame_most z h = grind arith
-
 size_most : (f : Format) (isa : Isa) (c : ChoiceValue) → Accesses isa c f → size_by f c ≤ 2100
 size_most f isa c h = grind arith
 
 pub size_low : (isa : Isa) (c : ChoiceValue) → IsMade isa c → case_size c ≤ 2100
 size_low isa c is = size_most (row c.op).form isa c is.sound.memory
 
-lead_words : (a b : Option ℕ) → (source_size a + source_size b + 20) % 4 ≡ 0
-lead_words a b = grind arith
-
-frame_four : (z : ℤ) → frame_size z % 4 ≡ 0
-frame_four z = grind arith
-
 pub source_four : (r : Option ℕ) → source_size r % 4 ≡ 0
 source_four r = grind arith
-
-frame_words : (a b : Option ℕ) (z : ℤ) → (source_size a + source_size b + frame_size z + 16) % 4 ≡ 0
-frame_words a b z = omega (arith, source_four a, source_four b, frame_four z)
 
 reserve_four : (op : Op) → reserve_size op % 4 ≡ 0
 reserve_four op = grind arith

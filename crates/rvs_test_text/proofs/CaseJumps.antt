@@ -30,6 +30,7 @@ use Rattle.rvs_test_text.proofs.JumpGood.{forward_good, backward_good, back_leng
 use Rattle.rvs_test_text.proofs.JumpNames.{forward_made, backward_made, frame_size}
 use Rattle.rvs_test_text.proofs.JumpCases.{IsLabelled}
 use Rattle.rvs_test_text.proofs.Assembled.{made_all}
+use Rattle.rvs_test_text.proofs.AtomicParts.{has}
 use Rattle.rvs_test_text.proofs.Helpers.{pointer_free}
 use Rattle.rvs_test_text.proofs.PlainCases.{source_made}
 use Rattle.rvs_test_text.proofs.Registers.{registers_of}
@@ -52,13 +53,6 @@ jumps_by _ setup c at target e l there here al room ram = absurd l
 
 pub not_zero : (n : ℕ) → (n ≡ 0 → ⊥) → 0 < n
 not_zero n h = grind arith
-
-no_value_fits : (rd rs1 rs2 : Option ℕ) (imm : Option ℤ) → AreOf Branch rd rs1 rs2 imm
-    → HasValue rd None
-no_value_fits rd rs1 rs2 imm h = grind arith
-
-some_value : (rd : Option ℕ) (v : ℕ) → v < 2 ^ 32 → HasValue rd (Some v)
-some_value rd v h = grind arith
 
 value_fits : (f : Format) (c : ChoiceValue) (at : ℕ) → (row c.op).form ≡ f → IsLabelled f
     → IsEncodable (fields_of c) → at + 4 < 2 ^ 32 → HasValue c.rd (jump_value f at)

@@ -36,42 +36,6 @@ use Rattle.rvs_test_text.proofs.CaseParts.{IsMade, StoreRegisters, imm_of}
 use Rattle.rvs_test_text.proofs.CaseBytes.{store_tail, atomic_tail, atomic_rest}
 use Rattle.rvs_test_text.proofs.CaseNames.{own_by, own_marks}
 
-store_marks : (memory : Memory) (k : ℕ) (c : ChoiceValue) (a m : ℕ) → StoreRegisters c
-    → marks (store_case k c) (text_at memory a m)
-    ≡ (CaseName k, record { at = memory.text_base + (a + 32); in_text = true }) ∷ []
-store_marks memory k c a m r = grind (arith, store_tail, source_size, source_marks, true)
-
-reserve_marks : (memory : Memory) (op : Op) (x y : ℕ) (ss : List Statement) (a m : ℕ)
-    → marks (reserve op x y ++ ss) (text_at memory a m)
-    ≡ marks ss (text_at memory (a + reserve_size op) m)
-reserve_marks memory op x y ss a m = grind arith
-
-atomic_marks : (memory : Memory) (k : ℕ) (c : ChoiceValue) (a m : ℕ)
-    → marks (atomic_case k c) (text_at memory a m)
-    ≡ (
-      CaseName k,
-      record {
-        at = memory.text_base + (a + atomic_lead (fields_of c));
-        in_text = true;
-      },
-    ) ∷ []
-atomic_marks memory k c a m =
-    let rest = atomic_rest k c in
-    let here = a + 4 + 4 + 4 + 4 + 4 + 4 + 4 in
-    source_marks memory c.rs1 c.w1 (source c.rs2 c.w2 ++ rest) here m
-    ∙ source_marks memory c.rs2 c.w2 rest (here + source_size c.rs1) m
-    ∙ reserve_marks memory c.op (unwrap_or c.rs1 0) (marker c) (atomic_tail k c)
-    (here + source_size c.rs1 + source_size c.rs2) m
-    ∙ ap (λ z. (CaseName k, record { at = memory.text_base + z; in_text = true }) ∷ [])
-    (let e : here + source_size c.rs1 + source_size c.rs2 + reserve_size c.op
-    ≡ a + atomic_lead (fields_of c) = omega arith in
-    e)
-
-jump_marks : (memory : Memory) (k : ℕ) (c : ChoiceValue) (a m : ℕ)
-    → marks (jump_case k c) (text_at memory a m)
-    ≡ frame_marks memory (imm_of c) k (a + source_size c.rs1 + source_size c.rs2)
-jump_marks memory k c a m = simp (imm_of, source_marks, source_size, frame_marks_are)
-
 marks_by : (memory : Memory) (f : Format) (k : ℕ) (c : ChoiceValue) (a m : ℕ) → (row c.op).form ≡ f
     → IsEncodable (fields_of c) → marks (case_by f k c) (text_at memory a m) ≡ own_by memory f k c a
 marks_by memory f k c a m e h = grind arith

@@ -81,20 +81,12 @@ pub store_made : (memory : Memory) (env : Name → ℕ) (pc k : ℕ) (c : Choice
     ≡ store_code memory (fields_of c) r.a r.b c.w1 c.w2 (pointer c) (marker c) (env (Slot k))
 store_made memory env pc k c r scratch = grind (arith, nat_tests)
 
-reserve_made : (op : Op) (a m : ℕ) (env : Name → ℕ) (pc : ℕ) (ss : List Statement)
-    → made_all env pc (reserve op a m ++ ss)
-    ≡ reserve_code op a m ++ made_all env (pc + reserve_size op) ss
-reserve_made op a m env pc ss = grind arith
-
 pub atomic_made : (memory : Memory) (env : Name → ℕ) (pc k : ℕ) (c : ChoiceValue)
     (r : AtomicRegisters c) → DataAt memory env
     → c.w1 ≡ memory.data_base
     → made_all env pc (atomic_case k c)
     ≡ atomic_code memory (fields_of c) r.a c.w2 (pointer c) (marker c) (env (Slot k))
 atomic_made memory env pc k c r places w1 = grind (arith, nat_tests)
-
-pub same_access : (op : Op) → (row op).form ≡ Store → store_size op ≡ access_size op
-same_access op h = grind arith
 
 aligned_there : (memory : Memory) → HasRoom memory → (op : Op) → (row op).form ≡ Store → (a : ℕ)
     → a % access_size op ≡ 0

@@ -179,10 +179,3 @@ window_is isa pc (i ∷ is) f are =
     ap (λ x. x ∷ insns_of (entries (pc + 4) is (words_behind f (entry_in pc i f))))
     (round_trip i are.0.encodable)
     ∙ ap (λ l. Some i ∷ l) (window_is isa (pc + 4) is (words_behind f (entry_in pc i f)) are.1)
-
--- there are such windows
-sample : (isa : Isa)
-    → IsSequence isa
-    (record { op = Add; rd = Some 8; rs1 = Some 9; rs2 = Some 10; imm = None } ∷ addi 11 8 (pos 1)
-    ∷ [])
-sample isa = grind (arith, Has, has_low, Some, None, admitted_low)

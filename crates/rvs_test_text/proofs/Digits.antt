@@ -47,9 +47,6 @@ decimal_spells n h =
     let s = decimal_by_steps IsPrinted first_digit next_digit n h in
     record { value = digits_of-decimal n h; some = s.some; digits = s.digits }
 
-not_hex : (s t : Bool) → t ≡ false → (s && t) ≡ false
-not_hex s t h = grind arith
-
 natural_read : (n : ℕ) (ds : List ℕ) → Spells n ds → natural_of ds ≡ Some n
 natural_read n ds s = grind arith
 

@@ -22,9 +22,6 @@ is_free d a b r = not (d == r || a == r || b == r)
 abbrev Taken : ℕ → ℕ → ℕ → ℕ → Type 0
 Taken d a b r = is_free d a b r ≡ false
 
-free_one : (d a b r : ℕ) → 0 < r → r < 16 → is_free d a b r ≡ true → IsFree d a b r
-free_one d a b r p q h = grind (arith, not, true)
-
 four : (d a b : ℕ) → Taken d a b 15 → Taken d a b 14 → Taken d a b 13 → Taken d a b 12 → ⊥
 four d a b h15 h14 h13 h12 = grind (arith, nat_tests)
 

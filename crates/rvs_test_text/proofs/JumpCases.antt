@@ -31,8 +31,6 @@ use Rattle.rvs_test_text.proofs.Registers.{Has}
 use Rattle.rvs_test_text.proofs.JumpNames.{back_after}
 
 -- ---- fine lines
-filler_fine : (isa : Isa) (n : ℕ) → n < 2 ^ 32 → AllFine isa (filler n)
-filler_fine isa n h = grind arith
 
 pub record IsLinkable (isa : Isa) (j : Fields) : Type 0 where
   pub form : LinkedFormat (row j.op).form
@@ -59,12 +57,6 @@ near_forward f a b d l e h w = grind arith
 near_back : (f : Format) (a b d : ℕ) → IsLabelled f → b ≡ a + suc d → d < 4000 → d % 2 ≡ 1
     → in_field f (distance a b) ≡ true
 near_back f a b d l e h w = grind arith
-
-filler_linked : (t : Marks) (n : ℕ) (p : Location) → AllLinked t (filler n) p
-filler_linked t n p = grind arith
-
-skip_linked : (t : Marks) (m q : ℕ) (p : Location) → AllLinked t (skip m q) p
-skip_linked t m q p = grind arith
 
 abbrev pub mark_at : Memory → ℕ → Mark
 mark_at memory x = record { at = memory.text_base + x; in_text = true }

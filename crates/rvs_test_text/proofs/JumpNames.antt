@@ -41,36 +41,18 @@ pub frame_bytes : (z : ℤ) (k m : ℕ) (j : Fields) (rest : List Statement)
 frame_bytes z k m j rest = grind arith
 
 -- ---- places
-filler_after : (memory : Memory) (n a r : ℕ) → after (filler n) (text_at memory a r)
-    ≡ text_at memory (a + 4 * n) r
-filler_after memory n a r = grind arith
-
-skip_after : (memory : Memory) (m q a r : ℕ) → after (skip m q) (text_at memory a r)
-    ≡ text_at memory (a + 4 * q) r
-skip_after memory m q a r = grind arith
 
 pub back_after : (memory : Memory) (k m q a r : ℕ)
     → after (back_body k m q) (text_at memory a r) ≡ text_at memory (a + 4 + 4 * q) r
 back_after memory k m q a r = grind arith
 
 -- ---- lines without a label
-filler_marks : (n : ℕ) (p : Location) → marks (filler n) p ≡ []
-filler_marks n p = grind arith
 
 skip_marks : (m q : ℕ) (p : Location) → marks (skip m q) p ≡ []
 skip_marks m q p = grind arith
 
 back_marks : (k m q : ℕ) (p : Location) → marks (back_body k m q) p ≡ []
 back_marks k m q p = grind arith
-
-filler_distinct : (t : Marks) (n : ℕ) (p : Location) → Distinct t (filler n) p
-filler_distinct t n p = grind arith
-
-skip_distinct : (t : Marks) (m q : ℕ) (p : Location) → Distinct t (skip m q) p
-skip_distinct t m q p = grind arith
-
-back_distinct : (t : Marks) (k m q : ℕ) (p : Location) → Distinct t (back_body k m q) p
-back_distinct t k m q p = grind arith
 
 -- ---- symbols
 abbrev pub frame_marks : Memory → ℤ → ℕ → ℕ → Marks
@@ -96,11 +78,6 @@ pub frame_marks_are : (memory : Memory) (z : ℤ) (k m p d : ℕ) (j : Fields) (
 frame_marks_are memory z k m p d j s r = grind arith
 
 -- ---- instructions
-filler_made : (env : Name → ℕ) (pc n : ℕ) → made_all env pc (filler n) ≡ nops n
-filler_made env pc n = search rules
-
-skip_made : (env : Name → ℕ) (pc m q : ℕ) → made_all env pc (skip m q) ≡ skip_code m q
-skip_made env pc m q = search rules
 
 back_made : (env : Name → ℕ) (pc k m q : ℕ)
     → made_all env pc (back_body k m q) ≡ back_code m pc q (env (Done k))

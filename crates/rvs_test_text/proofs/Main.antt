@@ -9,7 +9,7 @@ use Rattle.std.specs.Fmt.{decimal}
 use Rattle.std.proofs.lemmas.Fmt.{decimal_by_steps}
 use Rattle.rvs_insn.specs.Memory.{Memory, text_limit}
 use Rattle.rvs_insn.specs.Isa.{Isa}
-use Rattle.rvs_cgf.specs.Limits.{most_points}
+use Rattle.rvs_points.specs.Limits.{most_points}
 use Rattle.rvs_insn.proofs.Regions.{regions_end}
 use Rattle.rvs_asm_text.specs.Text.{lines_of, is_text_byte}
 use Rattle.rvs_base.specs.Digits.{digits_of}

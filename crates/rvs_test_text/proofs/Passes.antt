@@ -236,11 +236,8 @@ pub linked_join : (t : Marks) (xs ys : List Statement) (p : Location) → AllLin
 linked_join t [] ys p a b = b
 linked_join t (x ∷ xs) ys p a b = (a.0, linked_join t xs ys (next p (line_of x).body) a.1 b)
 
-low_number : (a : ℕ) → FitsBits 12 (low a)
+pub low_number : (a : ℕ) → FitsBits 12 (low a)
 low_number a = grind (arith, cases_lt)
-
-pub low_fits : (a : ℕ) → FitsBits 12 (low a)
-low_fits a = low_number a
 
 pub high_fits : (a : ℕ) → high a < 2 ^ 20
 high_fits a = mod_below ((a + 0x800) / 2 ^ 12) (2 ^ 20) (omega arith)
@@ -261,7 +258,7 @@ statement_linked t pc (High r n) hs l =
 statement_linked t pc (Low r n) hs l =
     ap (field_fault I low) (found t n l.2 hs ∙ l.1)
     ∙ ap (λ b. cond b None (Some (OutOfRange (low l.0.at))))
-    (low_field (low l.0.at) (low_fits l.0.at))
+    (low_field (low l.0.at) (low_number l.0.at))
 statement_linked t pc (To i n) hs l =
     ap (field_fault (row i.op).form (λ at. distance at pc)) (found t n l.small hs ∙ l.there)
     ∙ ap (λ b. cond b None (Some (OutOfRange (distance l.mark.at pc)))) l.near

@@ -76,11 +76,6 @@ has_lw isa d p z hd hp = admitted_low isa (lw d p z) hd hp tt refl
 pub has_jal : (isa : Isa) (d : ℕ) → Has isa d → is_admitted isa (jal d) ≡ true
 has_jal isa d hd = admitted_low isa (jal d) hd tt tt refl
 
--- a core that has a conditional store has what reserves its address
-pub has_lr : (isa : Isa) (m a : ℕ) → Has isa m → Has isa a → is_admitted_op isa ScW ≡ true
-    → is_admitted isa (lr m a) ≡ true
-has_lr isa m a hm ha h = admitted_op isa (lr m a) hm ha tt h
-
 -- ---- the registers of an encodable instruction
 pub record AreRegisters (i : Fields) : Type 0 where
   pub rd : IsRegister i.rd
@@ -100,9 +95,6 @@ pub record HasAll (isa : Isa) (i : Fields) : Type 0 where
   pub rs1 : HasField isa i.rs1
   pub rs2 : HasField isa i.rs2
 
-low_of : (r : ℕ) → nat_lt r 16 ≡ true → r < 16
-low_of r h = grind (arith, nat_tests)
-
 has_field : (isa : Isa) (r : Option ℕ) → IsRegister r → IsLowIn isa.e r → HasField isa r
 has_field isa r h low = grind arith
 
@@ -117,6 +109,3 @@ has_all isa i encodable admitted = grind (arith, registers_of, both, are_low_in,
 pub record AreCleared (isa : Isa) (n : ℕ) : Type 0 where
   pub low : n ≤ 31
   pub few : isa.e ≡ true → n ≤ 15
-
-pub has_cleared : (isa : Isa) (n r : ℕ) → AreCleared isa n → r ≤ n → Has isa r
-has_cleared isa n r is h = grind arith

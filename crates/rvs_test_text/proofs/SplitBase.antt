@@ -7,18 +7,11 @@ use Rattle.rvs_insn.specs.Word.{FitsBits}
 use Rattle.rvs_machine.specs.Effects.{add32}
 use Rattle.rvs_test_text.specs.TestText.{minus, first_part, second_part}
 
-minus_adds : (t k : ℕ) → k < 2 ^ 12 → t < 2 ^ 32
-    → add32 t (cast_unsigned w32 (minus k)) ≡ (t + (2 ^ 32 - k)) % 2 ^ 32
-minus_adds t k h s = grind arith
-
 -- the base that is set by both is the target less the immediate
 pub split_base : (t : ℕ) (z : ℤ) → t < 2 ^ 32 → FitsBits 12 z
     → add32 (add32 (add32 t (cast_unsigned w32 (first_part z))) (cast_unsigned w32 (second_part z)))
     (cast_unsigned w32 z) ≡ t
 split_base t z s f = grind arith
-
-minus_fits : (k : ℕ) → k ≤ 2 ^ 11 → FitsBits 12 (minus k)
-minus_fits k h = grind arith
 
 pub parts_fit : (z : ℤ) → FitsBits 12 z → FitsBits 12 (first_part z) × FitsBits 12 (second_part z)
 parts_fit z f = grind arith

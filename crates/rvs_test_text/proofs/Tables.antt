@@ -7,7 +7,7 @@ use Rattle.std.specs.Fmt.{decimal}
 use Rattle.std.specs.Str.{bytes_eq}
 use Rattle.std.proofs.lemmas.Fmt.{decimal_injective}
 use Rattle.std.proofs.lemmas.Slice.Eq.{bytes_eq-Decides}
-use Rattle.std.proofs.lemmas.Bool.{cases_eq}
+use Rattle.std.proofs.lemmas.Bool.{cases_eq, false_from_ne_true}
 use Rattle.std.proofs.lemmas.Bool.Decides.{nat_tests}
 use Rattle.rvs_asm.specs.declared.mark.Mark.{Mark}
 use Rattle.rvs_asm.specs.Symbols.{Table, find_mark, has_mark, address_in, address_of}
@@ -34,12 +34,9 @@ same_name (Slot j) (Slot k) = j == k
 same_name EndSignature EndSignature = true
 same_name _ _ = false
 
-not_true : (t : Bool) → (t ≡ true → ⊥) → t ≡ false
-not_true t h = grind arith
-
 same_decimal : (j k : ℕ) → j < 2 ^ 32 → k < 2 ^ 32 → bytes_eq (decimal j) (decimal k) ≡ (j == k)
 same_decimal j k hj hk =
-    grind (arith, bytes_eq-Decides, true, not_true, decimal_injective, false, cases_eq)
+    grind (arith, bytes_eq-Decides, true, false_from_ne_true, decimal_injective, false, cases_eq)
 
 -- names are told apart by their texts
 pub same_bytes : (a b : Name) → IsSmall a → IsSmall b
@@ -145,4 +142,12 @@ pub lacks_later : (n limit : ℕ) (ms : Marks) (name : Name) → limit ≤ stage
     → AllBelow n limit ms → Lacks ms name
 lacks_later n limit [] name h a = refl
 lacks_later n limit (m ∷ ms) name h a =
-    grind (arith, false, not_true, same_stage, cond, Some, (lacks_later n limit ms name h a.1))
+    grind (
+      arith,
+      false,
+      false_from_ne_true,
+      same_stage,
+      cond,
+      Some,
+      (lacks_later n limit ms name h a.1),
+    )

@@ -12,8 +12,7 @@ space-here b bs e = rw (e, without_spaces) refl
 
 pub spaces-more : (bs : List ℕ) (i : ℕ) → i < length bs → get_or bs i 0 ≡ 32
     → without_spaces (drop (i + 1) bs) ≡ without_spaces (drop i bs)
-spaces-more bs i h e =
-    sym (ap without_spaces (drop-at bs i h) ∙ space-here (get_or bs i 0) (drop (i + 1) bs) e)
+spaces-more bs i h e = simp (drop-at, space-here)
 
 end-space : (xs : List ℕ) → without_end (xs ++ 32 ∷ []) ≡ without_end xs
 end-space [] = refl

@@ -1,7 +1,7 @@
 -- Letters in a text, where they stand first.
 use Rattle.std.proofs.Common.{◌≡◌, ℕ, zero, suc, ◌+◌, ◌<◌, ◌≤◌, List, [], ◌∷◌, ◌++◌, length, take}
 use Rattle.std.proofs.Common.{drop, Option, Some, None, option_map, Bor, MatchOption, refl, sym, ap}
-use Rattle.std.proofs.Common.{◌∙◌, arith}
+use Rattle.std.proofs.Common.{◌∙◌, arith, rules}
 use Rattle.std.specs.Str.Pattern.{LacksTextAt, FindsText, SplitsAroundMatch}
 use Rattle.rvs_text.specs.Parts.{behind, around_text}
 use Rattle.rvs_text.proofs.Fronts.{at_front, not_in_front}
@@ -31,12 +31,7 @@ found : (letters s : List ℕ) (i : ℕ) → ((k : ℕ) → k < i → LacksTextA
     → drop i s ≡ letters ++ drop (i + length letters) s
     → around_text letters s ≡ Some (take i s, drop (i + length letters) s)
 found letters [] i lacks fits some is = absurd (omega (arith, fits, some))
-found letters (c ∷ cs) zero lacks fits some is =
-    let s = c ∷ cs in
-    let ends : 0 + length letters ≡ length letters = omega arith in
-    by-front letters c cs (Some (drop (length letters) s))
-    (at_front letters s (is ∙ ap (λ n. letters ++ drop n s) ends))
-    ∙ ap (λ n. Some ([], drop n s)) (sym ends)
+found letters (c ∷ cs) zero lacks fits some is = grind (arith, by-front, at_front)
 found letters (c ∷ cs) (suc i) lacks fits some is =
     let s = c ∷ cs in
     let ends : suc i + length letters ≡ suc (i + length letters) = omega arith in
@@ -51,10 +46,4 @@ pub around-split : (letters text : List ℕ) (r : Option (Bor (List ℕ) × Bor 
     → MatchOption r (FindsText letters text None)
     (λ x. SplitsAroundMatch (FindsText letters) text x.0.now x.1.now)
     → option_map (λ p. (p.0.now, p.1.now)) r ≡ around_text letters text
-around-split letters text None some lacks = sym (none letters text lacks)
-around-split letters text (Some x) some (i, j, (lacks, at), front, back, order, long, short) =
-    let ends : j ≡ i + length letters = at.ends in
-    let fits : i + length letters ≤ length text = omega (arith, ends, short) in
-    ap (λ p. Some p) (λ k. (front k, (back ∙ ap (λ m. drop m text) ends) k))
-    ∙ sym (found letters text i lacks fits some
-    (at.split ∙ ap (λ m. letters ++ drop m text) ends))
+around-split letters text r some lacks = search (rules, none, found)

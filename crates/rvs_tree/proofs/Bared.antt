@@ -1,8 +1,8 @@
 -- Entries with no more than their merges need bring the same.
 use Rattle.std.proofs.Common.{◌≡◌, ℕ, Bool, true, false, cond, List, [], ◌∷◌, ◌++◌, map, refl, sym}
-use Rattle.std.proofs.Common.{ap, ◌∙◌}
+use Rattle.std.proofs.Common.{ap, ◌∙◌, arith, rules}
 use Rattle.std.specs.Prelude.{◌&&◌}
-use Rattle.rvs_tree.specs.Data.{Data, scalar, sequence, mapping, Pairs, items_of, entries_of}
+use Rattle.rvs_tree.specs.Data.{Data, sequence, mapping, Pairs, items_of, entries_of}
 use Rattle.rvs_tree.specs.Data.{own_pairs, line_of, is_list}
 use Rattle.rvs_tree.specs.Value.{Value, Written, trees, list_value, map_value, added, resolved}
 use Rattle.rvs_tree.specs.Value.{explicit_keys, merged_pairs, is_map_or_empty, are_maps_or_empty}
@@ -18,8 +18,7 @@ explicit-by : (m : Bool) (w : Written) (ws us : List Written) → explicit_keys 
     →
     explicit_keys (cond m (merging_entry w.value.tree) (own_entry w.key w.value.tree) ∷ us)
     ≡ cond m [] (w.key ∷ []) ++ explicit_keys ws
-explicit-by true w ws us e = e
-explicit-by false w ws us e = ap (λ ks. w.key ∷ ks) e
+explicit-by m w ws us e = grind arith
 
 explicit-bare : (ws : List Written) → explicit_keys (bares ws) ≡ explicit_keys ws
 explicit-bare [] = refl
@@ -30,8 +29,7 @@ resolved-by : (m : Bool) (E : List (List ℕ)) (s : Pairs) (w : Written) (ws us 
     resolved E s (cond m (merging_entry w.value.tree) (own_entry w.key w.value.tree) ∷ us) ≡ cond m
     (resolved E (added E s (merged_pairs w.value.tree)) ws)
     (resolved E (s ++ (w.key, w.value.tree) ∷ []) ws)
-resolved-by true E s w ws us f = f (added E s (merged_pairs w.value.tree))
-resolved-by false E s w ws us f = f (s ++ (w.key, w.value.tree) ∷ [])
+resolved-by m E s w ws us f = grind arith
 
 resolved-bare : (E : List (List ℕ)) (ws : List Written) (s : Pairs)
     → resolved E s (bares ws) ≡ resolved E s ws
@@ -40,9 +38,7 @@ resolved-bare E (w ∷ ws) s = resolved-by w.merges E s w ws (bares ws) (λ t. r
 
 -- a map of bare entries
 pub bare-map : (line : ℕ) (ws : List Written) → data_of (bares ws) line ≡ (map_value line ws).tree
-bare-map line ws = ap (λ ps. mapping (entries_of ps) line)
-    (resolved-bare (explicit_keys (bares ws)) ws []
-    ∙ ap (λ ks. resolved ks [] ws) (explicit-bare ws))
+bare-map line ws = simp (resolved-bare, explicit-bare)
 
 abbrev pub merging : List Value → List Written
 merging vs = map (λ v. merging_entry v.tree) vs
@@ -58,9 +54,7 @@ bare-list line vs = ap (λ ds. sequence (items_of ds) line) (merging-trees vs)
 
 again : (ws : List Written) (l : ℕ) (d : Data) → d ≡ data_of ws l
     → mapping (entries_of (own_pairs d)) (line_of d) ≡ d
-again ws l d e = ap (λ x. mapping (entries_of (own_pairs x)) (line_of x)) e
-    ∙ ap (λ ps. mapping (entries_of ps) l) (pairs_of-entries_of (resolved (explicit_keys ws) [] ws))
-    ∙ sym e
+again ws l d e = grind (arith, pairs_of-entries_of)
 
 -- a map's draft from its pairs and its line
 pub rebuilt : (d : Draft) → is_list (draft_view d) ≡ false
@@ -68,8 +62,7 @@ pub rebuilt : (d : Draft) → is_list (draft_view d) ≡ false
 rebuilt d h = again (map part_view d.parts.items) d.line (draft_view d) (draft-map d h)
 
 line-by : (b : Bool) (d : Draft) → d.is_list ≡ b → d.line ≡ line_of (draft_view d)
-line-by true d e = sym (ap line_of (view-list d e))
-line-by false d e = sym (ap line_of (view-map d e))
+line-by b d e = search (rules, view-list, view-map)
 
 pub line-is : (d : Draft) → d.line ≡ line_of (draft_view d)
 line-is d = line-by d.is_list d refl
@@ -80,27 +73,22 @@ draft-items d h = view-list d (list-is d ∙ h)
 
 -- the items of a list, one after another
 trees-by : (m : Bool) (d : Data) (ds : List Data) → cond m (d ∷ ds) ds ≡ cond m (d ∷ []) [] ++ ds
-trees-by true d ds = refl
-trees-by false d ds = refl
+trees-by m d ds = grind arith
 
 pub trees-step : (w : Written) (ws : List Written)
     → merged_trees (w ∷ ws) ≡ merged_trees (w ∷ []) ++ merged_trees ws
 trees-step w ws = trees-by w.merges w.value.tree (merged_trees ws)
 
 and-parts : (a b : Bool) → (a && b) ≡ true → (a ≡ true) × (b ≡ true)
-and-parts true b h = (refl, h)
-and-parts false b h = cc
+and-parts a b h = grind arith
 
 and-with : (a b : Bool) → a ≡ true → b ≡ true → (a && b) ≡ true
-and-with true b h k = k
-and-with false b h k = cc
+and-with a b h k = grind arith
 
 maps-by : (m : Bool) (d : Data) (ds : List Data) → are_maps_or_empty (items_of (cond m (d ∷ ds) ds))
     ≡ true → (are_maps_or_empty (items_of (cond m (d ∷ []) [])) ≡ true)
     × (are_maps_or_empty (items_of ds) ≡ true)
-maps-by true d ds h = let p = and-parts (is_map_or_empty d) (are_maps_or_empty (items_of ds)) h in
-    (and-with (is_map_or_empty d) true p.0 refl, p.1)
-maps-by false d ds h = (refl, h)
+maps-by m d ds h = grind arith
 
 -- all are maps or empty: the first, and the others
 pub maps-step : (w : Written) (ws : List Written)
@@ -110,15 +98,12 @@ pub maps-step : (w : Written) (ws : List Written)
 maps-step w ws h = maps-by w.merges w.value.tree (merged_trees ws) h
 
 no-list : (d : Data) → is_map_or_empty d ≡ true → is_list d ≡ false
-no-list (scalar text line) h = refl
-no-list (sequence ds line) h = cc
-no-list (mapping es line) h = refl
+no-list d h = grind arith
 
 -- an item that is a map or empty is no list
 pub item-no-list : (w : Written) (d : Data) → w ≡ merging_entry d
     → are_maps_or_empty (items_of (merged_trees (w ∷ []))) ≡ true → is_list d ≡ false
-item-no-list w d e h = no-list d (and-parts (is_map_or_empty d) true
-    (sym (ap (λ u. are_maps_or_empty (items_of (merged_trees (u ∷ [])))) e) ∙ h)).0
+item-no-list w d e h = grind (arith, no-list, and-parts)
 
 pub mergeable-items : (d : Data) (ws : List Written) (l : ℕ)
     → d ≡ sequence (items_of (merged_trees ws)) l → is_mergeable d ≡ true

@@ -1,13 +1,13 @@
 -- The keys that entries bring, the step of the pass over merges, and what is gathered in it.
 use Rattle.std.proofs.Common.{◌≡◌, ℕ, Bool, true, false, cond, List, [], ◌∷◌, ◌++◌, refl, sym, ap}
-use Rattle.std.proofs.Common.{◌∙◌, append_assoc, append-nil, true≢false}
-use Rattle.std.specs.Prelude.{◌||◌, bytes_eq}
+use Rattle.std.proofs.Common.{◌∙◌, append_assoc, append-nil, arith, rules}
+use Rattle.std.specs.Prelude.{◌||◌}
 use Rattle.rvs_tree.specs.Data.{Data, Pairs}
 use Rattle.rvs_tree.specs.Value.{Written, has_key, keys_of, resolved, explicit_keys}
 use Rattle.rvs_tree.specs.Sifted.{sift, later, kept, gathered, merged_keys}
 use Rattle.rvs_tree.proofs.Sums.{map-append, has_key-append}
-use Rattle.rvs_tree.proofs.Sifting.{Keys, pairs, adds, Same, or-true, taken-again, middle, in-more}
-use Rattle.rvs_tree.proofs.Sifting.{sifted-keys, Has, has-merge, has-own, has-first, has-more}
+use Rattle.rvs_tree.proofs.Sifting.{Keys, pairs, adds, Same, taken-again, middle, in-more}
+use Rattle.rvs_tree.proofs.Sifting.{sifted-keys, Has, has-first, has-more}
 use Rattle.rvs_tree.proofs.Sifting.{pairs-later, later-same, brings}
 
 later-append-by : (m : Bool) (V : Keys) (w : Written) (us vs : List Written) →
@@ -16,16 +16,7 @@ later-append-by : (m : Bool) (V : Keys) (w : Written) (us vs : List Written) →
     ((w.key, w.value.tree) ∷ later V (us ++ vs))
     ≡ cond m (sift V (pairs w) ++ later (adds w ++ V) us) ((w.key, w.value.tree) ∷ later V us)
     ++ later ((merged_keys us ++ cond m (adds w) []) ++ V) vs
-later-append-by true V w us vs f =
-    let ps = pairs w in
-    ap (λ x. sift V ps ++ x) (f (keys_of ps ++ V))
-    ∙ sym (append_assoc (sift V ps) (later (keys_of ps ++ V) us)
-    (later (merged_keys us ++ (keys_of ps ++ V)) vs))
-    ∙ ap (λ x. (sift V ps ++ later (keys_of ps ++ V) us) ++ later x vs)
-    (sym (append_assoc (merged_keys us) (keys_of ps) V))
-later-append-by false V w us vs f =
-    ap (λ x. (w.key, w.value.tree) ∷ x)
-    (f V ∙ ap (λ x. later V us ++ later (x ++ V) vs) (sym (append-nil (merged_keys us))))
+later-append-by m V w us vs f = search (rules, append_assoc, append-nil)
 
 pub later-append : (V : Keys) (us vs : List Written)
     → later V (us ++ vs) ≡ later V us ++ later (merged_keys us ++ V) vs
@@ -36,11 +27,7 @@ kept-merged-by : (m b : Bool) (T : Keys) (w : Written) (ws : List Written) → w
     merged_keys (kept T ws) ≡ merged_keys ws → merged_keys (kept (w.key ∷ T) ws) ≡ merged_keys ws →
     merged_keys (cond m (w ∷ kept T ws) (cond b (kept T ws) (w ∷ kept (w.key ∷ T) ws)))
     ≡ merged_keys ws ++ cond m (adds w) []
-kept-merged-by true b T w ws e f g =
-    ap (λ x. merged_keys (kept T ws) ++ cond x (adds w) []) e ∙ ap (λ x. x ++ adds w) f
-kept-merged-by false true T w ws e f g = f ∙ sym (append-nil (merged_keys ws))
-kept-merged-by false false T w ws e f g =
-    ap (λ x. merged_keys (kept (w.key ∷ T) ws) ++ cond x (adds w) []) e ∙ ap (λ x. x ++ []) g
+kept-merged-by m b T w ws e f g = search rules
 
 pub kept-merged : (T : Keys) (ws : List Written) → merged_keys (kept T ws) ≡ merged_keys ws
 kept-merged T [] = refl
@@ -49,36 +36,17 @@ kept-merged T (w ∷ ws) = kept-merged-by w.merges (has_key w.key T) T w ws refl
 
 mix : (ks kl kp mk v : Bool) → (ks || v) ≡ (kp || v) → (kl || (kp || v)) ≡ (mk || (kp || v))
     → ((ks || kl) || v) ≡ ((mk || kp) || v)
-mix ks kl kp mk true e f = or-true (ks || kl) ∙ sym (or-true (mk || kp))
-mix true true true true false e f = cc
-mix true true true false false e f = cc
-mix true true false true false e f = cc
-mix true true false false false e f = cc
-mix true false true true false e f = cc
-mix true false true false false e f = cc
-mix true false false true false e f = cc
-mix true false false false false e f = cc
-mix false true true true false e f = cc
-mix false true true false false e f = cc
-mix false true false true false e f = cc
-mix false true false false false e f = cc
-mix false false true true false e f = cc
-mix false false true false false e f = cc
-mix false false false true false e f = cc
-mix false false false false false e f = cc
+mix ks kl kp mk v e f = grind arith
 
 or-false : (a : Bool) → (a || false) ≡ a
-or-false true = refl
-or-false false = refl
+or-false a = grind arith
 
 or-either : (a b c : Bool) → (a || b) ≡ true → (b ≡ true → c ≡ true) → (a || c) ≡ true
-or-either true b c i g = refl
-or-either false b c i g = g i
+or-either a b c i g = grind arith
 
 has-rest-by : (m : Bool) (w : Written) (ws : List Written) (V : Keys) → w.merges ≡ m
     → Has (w ∷ ws) V → Has ws V
-has-rest-by true w ws V e h = has-merge w ws V e h
-has-rest-by false w ws V e h = has-own w ws V e h
+has-rest-by m w ws V e h = grind arith
 
 has-rest : (w : Written) (ws : List Written) (V : Keys) → Has (w ∷ ws) V → Has ws V
 has-rest w ws V h = has-rest-by w.merges w ws V refl h
@@ -108,9 +76,7 @@ brought-keys-by true V w ws k h f g =
     ∙ ap (λ b. has_key k (merged_keys ws) || b) (has_key-append k (keys_of ps) V))
     ∙ ap (λ b. b || has_key k V) (sym (has_key-append k (merged_keys ws) (keys_of ps)))
     ∙ sym (has_key-append k (merged_keys ws ++ keys_of ps) V)
-brought-keys-by false V w ws k h f g =
-    taken-again w.key (keys_of (later V ws) ++ V) (in-more w.key (keys_of (later V ws)) V (h refl))
-    k ∙ g ∙ ap (λ ks. has_key k (ks ++ V)) (sym (append-nil (merged_keys ws)))
+brought-keys-by false V w ws k h f g = grind (arith, taken-again, in-more, append-nil)
 
 brought-keys : (ws : List Written) (V : Keys) → Has ws V
     → Same (keys_of (later V ws) ++ V) (merged_keys ws ++ V)
@@ -128,12 +94,7 @@ own-there-by : (m : Bool) (V : Keys) (w : Written) (ws : List Written) (k : List
     has_key k (keys_of
     (cond m (sift V (pairs w) ++ later (adds w ++ V) ws) ((w.key, w.value.tree) ∷ later V ws)))
     ≡ true
-own-there-by true V w ws k f g i =
-    let ps = pairs w in
-    ap (has_key k) (map-append (λ q. q.0) (sift V ps) (later (keys_of ps ++ V) ws))
-    ∙ in-more k (keys_of (sift V ps)) (keys_of (later (keys_of ps ++ V) ws)) (f i)
-own-there-by false V w ws k f g i = or-either (bytes_eq w.key k) (has_key k (explicit_keys ws))
-    (has_key k (keys_of (later V ws))) i g
+own-there-by m V w ws k f g i = search (rules, map-append, in-more, or-either)
 
 own-there : (ws : List Written) (V : Keys) (k : List ℕ) → has_key k (explicit_keys ws) ≡ true
     → has_key k (keys_of (later V ws)) ≡ true
@@ -143,10 +104,7 @@ own-there (w ∷ ws) V k i =
 
 finals : (kr e mk v : Bool) → (kr || e) ≡ (mk || e) → (e ≡ true → kr ≡ true)
     → (kr || v) ≡ (mk || (v || e))
-finals true true mk v f g = sym (ap (λ b. mk || b) (or-true v) ∙ or-true mk)
-finals false true mk v f g = absurd (true≢false (sym (g refl)))
-finals kr false mk v f g =
-    ap (λ b. b || v) (sym (or-false kr) ∙ f ∙ or-false mk) ∙ ap (λ b. mk || b) (sym (or-false v))
+finals kr e mk v f g = grind arith
 
 pub all-keys : (T : Keys) (ws : List Written)
     → Same (keys_of (resolved (explicit_keys ws) [] ws) ++ T)
@@ -167,18 +125,12 @@ pub enters : (T : Keys) (ws rest : List Written) →
     sift T (resolved (explicit_keys ws) [] ws)
     ++ later (keys_of (resolved (explicit_keys ws) [] ws) ++ T) rest
     ≡ later (T ++ explicit_keys ws) (kept T ws ++ rest)
-enters T ws rest =
-    ap (λ x. x ++ later (keys_of (resolved (explicit_keys ws) [] ws) ++ T) rest) (brings T ws)
-    ∙ ap (λ x. later (T ++ explicit_keys ws) (kept T ws) ++ x) (later-same
-    (keys_of (resolved (explicit_keys ws) [] ws) ++ T)
-    (merged_keys (kept T ws) ++ (T ++ explicit_keys ws)) rest (all-keys T ws))
-    ∙ sym (later-append (T ++ explicit_keys ws) (kept T ws) rest)
+enters T ws rest = grind (arith, brings, later-same, all-keys, later-append)
 
 gathered-by : (b : Bool) (g : Pairs × Keys) (p : List ℕ × Data) (ps : Pairs) →
     cond b (gathered g ps) (gathered (g.0 ++ p ∷ [], p.0 ∷ g.1) ps)
     ≡ gathered (cond b g (g.0 ++ p ∷ [], p.0 ∷ g.1)) ps
-gathered-by true g p ps = refl
-gathered-by false g p ps = refl
+gathered-by b g p ps = grind arith
 
 pub gathered-step : (g : Pairs × Keys) (p : List ℕ × Data) (ps : Pairs)
     → gathered g (p ∷ ps) ≡ gathered (gathered g (p ∷ [])) ps
@@ -187,9 +139,7 @@ gathered-step g p ps = gathered-by (has_key p.0 g.1) g p ps
 pub gathered-append : (g : Pairs × Keys) (ps qs : Pairs)
     → gathered g (ps ++ qs) ≡ gathered (gathered g ps) qs
 gathered-append g [] qs = refl
-gathered-append g (p ∷ ps) qs =
-    gathered-step g p (ps ++ qs) ∙ gathered-append (gathered g (p ∷ [])) ps qs
-    ∙ ap (λ t. gathered t qs) (sym (gathered-step g p ps))
+gathered-append g (p ∷ ps) qs = simp (gathered-step, (gathered-append (gathered g (p ∷ [])) ps qs))
 
 -- what is gathered is what is sifted
 gathered-sift-by : (b : Bool) (out : Pairs) (T : Keys) (p : List ℕ × Data) (ps : Pairs) →
@@ -197,8 +147,7 @@ gathered-sift-by : (b : Bool) (out : Pairs) (T : Keys) (p : List ℕ × Data) (p
     → (gathered (out ++ p ∷ [], p.0 ∷ T) ps).0 ≡ (out ++ p ∷ []) ++ sift (p.0 ∷ T) ps →
     (cond b (gathered (out, T) ps) (gathered (out ++ p ∷ [], p.0 ∷ T) ps)).0
     ≡ out ++ cond b (sift T ps) (p ∷ sift (p.0 ∷ T) ps)
-gathered-sift-by true out T p ps f g = f
-gathered-sift-by false out T p ps f g = g ∙ append_assoc out (p ∷ []) (sift (p.0 ∷ T) ps)
+gathered-sift-by b out T p ps f g = search (rules, append_assoc)
 
 pub gathered-sift : (out : Pairs) (T : Keys) (ps : Pairs)
     → (gathered (out, T) ps).0 ≡ out ++ sift T ps
@@ -212,9 +161,7 @@ gathered-keys-by : (b : Bool) (out : Pairs) (T : Keys) (p : List ℕ × Data) (p
     → has_key k (gathered (out ++ p ∷ [], p.0 ∷ T) ps).1 ≡ has_key k (keys_of ps ++ p.0 ∷ T) →
     has_key k (cond b (gathered (out, T) ps) (gathered (out ++ p ∷ [], p.0 ∷ T) ps)).1
     ≡ has_key k (p.0 ∷ keys_of ps ++ T)
-gathered-keys-by true out T p ps k e f g =
-    f ∙ sym (taken-again p.0 (keys_of ps ++ T) (in-more p.0 (keys_of ps) T e) k)
-gathered-keys-by false out T p ps k e f g = g ∙ middle (keys_of ps) p.0 T k
+gathered-keys-by b out T p ps k e f g = search (rules, taken-again, in-more, middle)
 
 pub gathered-keys : (out : Pairs) (T : Keys) (ps : Pairs)
     → Same (gathered (out, T) ps).1 (keys_of ps ++ T)

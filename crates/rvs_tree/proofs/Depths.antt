@@ -1,12 +1,13 @@
 -- How deep trees are, and what an entry more brings.
 use Rattle.std.proofs.Common.{◌≡◌, ℕ, zero, suc, ◌-◌, ◌<◌, ◌≤◌, max, min, Bool, true, false, cond}
-use Rattle.std.proofs.Common.{List, [], ◌∷◌, ◌++◌, map, take, slice_get, Some, refl, ap, ◌∙◌, arith}
+use Rattle.std.proofs.Common.{List, [], ◌∷◌, ◌++◌, map, take, slice_get, Some, refl, ap, arith}
+use Rattle.std.proofs.Common.{rules}
 use Rattle.std.specs.Prelude.{◌||◌, nat_lt, if◌then◌else◌}
 use Rattle.std.proofs.lemmas.Bool.Decides.{nat_tests}
 use Rattle.rvs_tree.specs.Data.{Data, scalar, sequence, mapping, Items, no_items, item, Entries}
 use Rattle.rvs_tree.specs.Data.{no_entries, entry, list_of, Pairs, pairs_of, members_of, is_scalar}
 use Rattle.rvs_tree.specs.Data.{is_list, depth, items_depth, entries_depth}
-use Rattle.rvs_tree.specs.Value.{Written, has_key, keys_of, resolved, explicit_keys, merged_pairs}
+use Rattle.rvs_tree.specs.Value.{Written, has_key, explicit_keys, merged_pairs}
 use Rattle.rvs_tree.specs.Bound.{members_depth, pairs_depth, visible_depth, brought, written_depth}
 use Rattle.rvs_tree.specs.Sifted.{sift}
 use Rattle.rvs_tree.proofs.Sums.{pairs_depth-append, has_key-append, visible-append, brought_small}
@@ -22,9 +23,7 @@ entries-depth no_entries = refl
 entries-depth (entry k d es) = ap (max (depth d)) (entries-depth es)
 
 pub depth-members : (d : Data) → is_scalar d ≡ false → depth d ≡ suc (members_depth (members_of d))
-depth-members (scalar text line) h = cc
-depth-members (sequence ds line) h = ap suc (items-depth ds)
-depth-members (mapping es line) h = ap suc (entries-depth es)
+depth-members d h = search (rules, items-depth, entries-depth)
 
 member-depth : (ds : List Data) (i : ℕ) (m : Data) → slice_get ds i ≡ Some m
     → depth m ≤ members_depth ds
@@ -55,13 +54,10 @@ sift-visible-by : (t b : Bool) (T E : List (List ℕ)) (p : List ℕ × Data) (p
     → pairs_depth (sift (p.0 ∷ T) ps) ≤ visible_depth E ps →
     pairs_depth (cond t (sift T ps) (p ∷ sift (p.0 ∷ T) ps))
     ≤ max (cond b 0 (depth p.1)) (visible_depth E ps)
-sift-visible-by true b T E p ps h f g = omega (arith, f)
-sift-visible-by false true T E p ps h f g = let e = h refl in cc
-sift-visible-by false false T E p ps h f g = omega (arith, g)
+sift-visible-by t b T E p ps h f g = grind arith
 
 more-keys : (a b : Bool) → b ≡ true → (a || b) ≡ true
-more-keys true b h = refl
-more-keys false b h = h
+more-keys a b h = grind arith
 
 sift-visible : (T E : List (List ℕ)) (ps : Pairs)
     → ((k : List ℕ) → has_key k E ≡ true → has_key k T ≡ true)
@@ -72,27 +68,16 @@ sift-visible T E (p ∷ ps) h =
     (sift-visible (p.0 ∷ T) E ps (λ k i. more-keys _ (has_key k T) (h k i)))
 
 in-front : (a b : Bool) → a ≡ true → (a || b) ≡ true
-in-front true b h = refl
-in-front false b h = cc
+in-front a b h = grind arith
 
 merged-push : (ws : List Written) (w : Written) → w.merges ≡ true → written_depth (ws ++ w ∷ [])
     ≤ max (written_depth ws) (visible_depth (explicit_keys ws) (merged_pairs w.value.tree))
 merged-push ws w e =
-    let E = explicit_keys ws in
-    let R = resolved E [] ws in
-    omega (
-      arith,
-      ap pairs_depth (merge-more ws w e),
-      pairs_depth-append R (sift (E ++ keys_of R) (merged_pairs w.value.tree)),
-      sift-visible (E ++ keys_of R) E (merged_pairs w.value.tree)
-          (λ k i. has_key-append k E (keys_of R)
-          ∙ in-front (has_key k E) (has_key k (keys_of R)) i),
-    )
+    grind (arith, merge-more, pairs_depth-append, sift-visible, has_key-append, in-front)
 
 push-by : (m : Bool) (ws : List Written) (w : Written) → w.merges ≡ m → written_depth (ws ++ w ∷ [])
     ≤ max (written_depth ws) (brought (explicit_keys ws) m w.value.tree)
-push-by true ws w e = merged-push ws w e
-push-by false ws w e = (own-more ws w e).1
+push-by m ws w e = search (rules, merged-push, own-more)
 
 -- with an entry more, a map is no deeper than it was and than what the entry brings
 pub written_depth-push : (ws : List Written) (w : Written) → written_depth (ws ++ w ∷ [])
@@ -116,16 +101,12 @@ brought-within E m d n h = omega (arith, h, brought_small E m d)
 
 inside-by : (b : Bool) (E : List (List ℕ)) (d : Data) (n : ℕ) → is_list d ≡ b → min (depth d) 33 ≤ n
     → n < 33 → min (visible_depth E (merged_pairs d)) 33 ≤ n - (if b then 2 else 1)
-inside-by true E d n e h l =
-    omega (arith, h, l, visible_less E (merged_pairs d), list_shallower d e)
-inside-by false E d n e h l =
-    omega (arith, h, l, visible_less E (merged_pairs d), merged_shallower d)
+inside-by b E d n e h l = search (rules, visible_less, list_shallower, merged_shallower)
 
 inside-test : (t : Bool) (E : List (List ℕ)) (d : Data) (n : ℕ) → (t ≡ true → n < 33)
     → (t ≡ false → 33 ≤ n) → min (depth d) 33 ≤ n →
     min (visible_depth E (merged_pairs d)) 33 ≤ (if t then n - (if is_list d then 2 else 1) else n)
-inside-test true E d n f g h = inside-by (is_list d) E d n refl h (f refl)
-inside-test false E d n f g h = omega (arith, g refl)
+inside-test t E d n f g h = search (rules, inside-by)
 
 lt_true : (a b : ℕ) → nat_lt a b ≡ true → a < b
 lt_true a b h = grind (arith, nat_tests)

@@ -36,8 +36,7 @@ pub view-list : (d : Draft) → d.is_list ≡ true
 view-list d e = search (rules, draft_lemmas)
 
 list-by : (b : Bool) (d : Draft) → d.is_list ≡ b → b ≡ is_list (draft_view d)
-list-by true d e = sym (ap is_list (view-list d e))
-list-by false d e = sym (ap is_list (view-map d e))
+list-by b d e = search (rules, view-list, view-map)
 
 pub list-is : (d : Draft) → d.is_list ≡ is_list (draft_view d)
 list-is d = list-by d.is_list d refl
@@ -48,8 +47,7 @@ draft-map d h = view-map d (list-is d ∙ h)
 
 pub draft-list : (d : Draft) → is_list (draft_view d) ≡ true
     → merged_pairs (draft_view d) ≡ pairs_in (merged_trees (map part_view d.parts.items))
-draft-list d h = ap merged_pairs (view-list d (list-is d ∙ h))
-    ∙ ap pairs_in (list_of-items_of (merged_trees (map part_view d.parts.items)))
+draft-list d h = grind (arith, view-list, list-is, list_of-items_of)
 
 pub size-draft : (d : Draft) → draft_size d ≡ sizes d.parts.items
 size-draft d = search (rules, draft_lemmas)
@@ -60,22 +58,18 @@ refs-push ps p = map-append (λ q. part_view q.now) ps (p ∷ [])
 
 total-append : (xs ys : List ℕ) → total (xs ++ ys) ≡ total xs + total ys
 total-append [] ys = sym (zero-add (total ys))
-total-append (x ∷ xs) ys =
-    ap (λ n. x + n) (total-append xs ys) ∙ sym (add_assoc x (total xs) (total ys))
+total-append (x ∷ xs) ys = simp (add_assoc, (total-append xs ys))
 
 pub sizes-push : (ps : List (Bor Part)) (p : Bor Part)
     → ref_sizes (ps ++ p ∷ []) ≡ ref_sizes ps + part_size p.now
-sizes-push ps p = ap total (map-append (λ q. part_size q.now) ps (p ∷ []))
-    ∙ total-append (map (λ q. part_size q.now) ps) (part_size p.now ∷ [])
-    ∙ ap (λ n. ref_sizes ps + n) (add-zero (part_size p.now))
+sizes-push ps p = simp (map-append, total-append, add-zero)
 
 pub next-push : (ps : List (Bor Part)) (p : Bor Part)
     → next_view (ps ++ p ∷ []) ≡ part_view p.now ∷ next_view ps
 next-push ps p = ap reverse (refs-push ps p) ∙ reverse-append (refs_view ps) (part_view p.now ∷ [])
 
 sizes-append : (xs ys : List Part) → sizes (xs ++ ys) ≡ sizes xs + sizes ys
-sizes-append xs ys =
-    ap total (map-append part_size xs ys) ∙ total-append (map part_size xs) (map part_size ys)
+sizes-append xs ys = simp (map-append, total-append)
 
 sizes-one : (p : Part) → sizes (p ∷ []) ≡ part_size p
 sizes-one p = add-zero (part_size p)
@@ -86,14 +80,4 @@ parts-fewer work rest p e s = omega (arith, ap sizes e, sizes-append rest (p ∷
 
 pub parts-appended : (b : Bool) (work rest new items : List Part) (p : Part) → work ≡ rest ++ p ∷ []
     → new ≡ cond b (rest ++ items) rest → sizes items < part_size p → sizes new < sizes work
-parts-appended true work rest new items p e n s = omega (
-  arith,
-  ap sizes e,
-  ap sizes n,
-  sizes-append rest items,
-  sizes-append rest (p ∷ []),
-  sizes-one p,
-  s,
-)
-parts-appended false work rest new items p e n s =
-    omega (arith, ap sizes e, ap sizes n, sizes-append rest (p ∷ []), sizes-one p, s)
+parts-appended b work rest new items p e n s = search (rules, sizes-append, sizes-one)

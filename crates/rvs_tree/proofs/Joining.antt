@@ -1,6 +1,6 @@
 -- Keys that move from one set to another, and the keys that collections bring.
-use Rattle.std.proofs.Common.{◌≡◌, ℕ, Bool, true, false, cond, List, [], ◌∷◌, ◌++◌, refl, sym, ap}
-use Rattle.std.proofs.Common.{◌∙◌, append-nil, true≢false}
+use Rattle.std.proofs.Common.{◌≡◌, ℕ, Bool, true, false, cond, List, [], ◌∷◌, ◌++◌, sym, ap}
+use Rattle.std.proofs.Common.{◌∙◌, append-nil, arith}
 use Rattle.std.specs.Prelude.{◌||◌}
 use Rattle.rvs_tree.specs.Data.{own_pairs}
 use Rattle.rvs_tree.specs.Value.{Value, Written, has_key, keys_of, explicit_keys, resolved, trees}
@@ -13,14 +13,10 @@ use Rattle.rvs_tree.proofs.Bringing.{all-keys, kept-merged}
 -- a key that moved was in one of the sets
 pub moved : (b s f : Bool) → (b ≡ true → f ≡ true) → (cond b true s || cond b false f) ≡ true
     → (s || f) ≡ true
-moved true true f h e = refl
-moved true false f h e = h refl
-moved false s f h e = e
+moved b s f h e = grind arith
 
 pub or-turned : (a b : Bool) → (a || b) ≡ true → (b || a) ≡ true
-or-turned true true e = refl
-or-turned true false e = refl
-or-turned false b e = ap (λ c. c || false) e
+or-turned a b e = grind arith
 
 -- the keys of what a map of these entries brings
 pub map-keys : (line : ℕ) (ws : List Written) (k : List ℕ)
@@ -37,8 +33,7 @@ map-keys line ws k =
 pub list-keys : (line : ℕ) (vs : List Value) (k : List ℕ)
     → has_key k (keys_of (merged_pairs (list_value line vs).tree))
     ≡ has_key k (keys_of (pairs_in (trees vs)))
-list-keys line vs k =
-    ap (λ ds. has_key k (keys_of (pairs_in ds))) (list_of-items_of (trees vs))
+list-keys line vs k = simp list_of-items_of
 
 keys_of-append : (ps qs : _) → keys_of (ps ++ qs) ≡ keys_of ps ++ keys_of qs
 keys_of-append ps qs = map-append (λ p. p.0) ps qs
@@ -47,25 +42,9 @@ pub keys-push : (vs : List Value) (v : Value) (k : List ℕ)
     → has_key k (keys_of (pairs_in (trees (vs ++ v ∷ []))))
     ≡ (has_key k (keys_of (pairs_in (trees vs))) || has_key k (keys_of (own_pairs v.tree)))
 keys-push [] v k = ap (λ ps. has_key k (keys_of ps)) (append-nil (own_pairs v.tree))
-keys-push (u ∷ us) v k =
-    let U = own_pairs u.tree in
-    let back = pairs_in (trees us) in
-    let x = has_key k (keys_of (own_pairs v.tree)) in
-    ap (has_key k) (keys_of-append U (pairs_in (trees (us ++ v ∷ []))))
-    ∙ has_key-append k (keys_of U) (keys_of (pairs_in (trees (us ++ v ∷ []))))
-    ∙ ap (λ b. has_key k (keys_of U) || b) (keys-push us v k)
-    ∙ or-apart (has_key k (keys_of U)) (has_key k (keys_of back)) x
-    ∙ ap (λ b. b || x) (sym (has_key-append k (keys_of U) (keys_of back))
-    ∙ sym (ap (has_key k) (keys_of-append U back)))
-  where
-    or-apart : (a b c : Bool) → (a || (b || c)) ≡ ((a || b) || c)
-    or-apart true b c = refl
-    or-apart false b c = refl
+keys-push (u ∷ us) v k = grind (arith, keys_of-append, has_key-append, (keys-push us v k))
 
 -- what is known of either is known of both
 pub or-both : (a b c d : Bool) → (a ≡ true → c ≡ true) → (b ≡ true → d ≡ true) → (a || b) ≡ true
     → (c || d) ≡ true
-or-both true b true d f g e = refl
-or-both true b false d f g e = absurd (true≢false (sym (f refl)))
-or-both false true c d f g e = or-turned d c (ap (λ x. x || c) (g refl))
-or-both false false c d f g e = absurd (true≢false (sym e))
+or-both a b c d f g e = grind arith

@@ -1,6 +1,6 @@
 -- An explicit key keeps its value.
 use Rattle.std.proofs.Common.{◌≡◌, ℕ, Bool, true, false, cond, List, [], ◌∷◌, ◌++◌, Some, None}
-use Rattle.std.proofs.Common.{refl, sym, ap, ◌∙◌, append_assoc}
+use Rattle.std.proofs.Common.{refl, ap, ◌∙◌, append_assoc, arith, rules}
 use Rattle.std.specs.Prelude.{◌||◌, bytes_eq}
 use Rattle.std.proofs.lemmas.Slice.Eq.{bytes_eq-Decides}
 use Rattle.rvs_tree.specs.Data.{Data, Pairs, value_among, entries_of, pairs_of}
@@ -16,8 +16,7 @@ among-by : (b : Bool) (x v : Data) (k : List ℕ) (ps qs : Pairs)
     → (value_among k ps ≡ Some v → value_among k (ps ++ qs) ≡ Some v)
     → cond b (Some x) (value_among k ps) ≡ Some v
     → cond b (Some x) (value_among k (ps ++ qs)) ≡ Some v
-among-by true x v k ps qs f h = h
-among-by false x v k ps qs f h = f h
+among-by b x v k ps qs f h = grind arith
 
 among-more : (k : List ℕ) (v : Data) (ps qs : Pairs) → value_among k ps ≡ Some v
     → value_among k (ps ++ qs) ≡ Some v
@@ -28,8 +27,7 @@ none-by : (b : Bool) (x : Data) (k : List ℕ) (ps qs : Pairs)
     → (value_among k ps ≡ None → value_among k (ps ++ qs) ≡ value_among k qs)
     → cond b (Some x) (value_among k ps) ≡ None
     → cond b (Some x) (value_among k (ps ++ qs)) ≡ value_among k qs
-none-by true x k ps qs f h = cc
-none-by false x k ps qs f h = f h
+none-by b x k ps qs f h = grind arith
 
 among-none : (k : List ℕ) (ps qs : Pairs) → value_among k ps ≡ None
     → value_among k (ps ++ qs) ≡ value_among k qs
@@ -41,8 +39,7 @@ added-stay-by : (b : Bool) (E : List (List ℕ)) (k : List ℕ) (v : Data) (s : 
     (p : List ℕ × Data) (ps : Pairs) → value_among k (added E s ps) ≡ Some v → value_among k
     (added E (s ++ p ∷ []) ps) ≡ Some v →
     value_among k (cond b (added E s ps) (added E (s ++ p ∷ []) ps)) ≡ Some v
-added-stay-by true E k v s p ps f g = f
-added-stay-by false E k v s p ps f g = g
+added-stay-by b E k v s p ps f g = grind arith
 
 added-stay : (E : List (List ℕ)) (k : List ℕ) (v : Data) (s ps : Pairs) → value_among k s ≡ Some v
     → value_among k (added E s ps) ≡ Some v
@@ -57,8 +54,7 @@ resolved-stay-by : (b : Bool) (E : List (List ℕ)) (k : List ℕ) (v : Data) (s
     value_among k (resolved E (s ++ (w.key, w.value.tree) ∷ []) ws) ≡ Some v →
     value_among k (cond b (resolved E (added E s (merged_pairs w.value.tree)) ws)
     (resolved E (s ++ (w.key, w.value.tree) ∷ []) ws)) ≡ Some v
-resolved-stay-by true E k v s w ws f g = f
-resolved-stay-by false E k v s w ws f g = g
+resolved-stay-by b E k v s w ws f g = grind arith
 
 resolved-stay : (E : List (List ℕ)) (k : List ℕ) (v : Data) (s : Pairs) (ws : List Written)
     → value_among k s ≡ Some v → value_among k (resolved E s ws) ≡ Some v
@@ -71,24 +67,20 @@ resolved-stay E k v s (w ∷ ws) h =
 
 -- what merges bring has no explicit key
 or-left : (a b : Bool) → a ≡ true → (a || b) ≡ true
-or-left true b h = refl
-or-left false b h = cc
+or-left a b h = grind arith
 
 or-both : (a b : Bool) → (a || b) ≡ false → (a ≡ false) × (b ≡ false)
-or-both true b h = cc
-or-both false b h = (refl, h)
+or-both a b h = grind arith
 
 added-none-by : (b : Bool) (E : List (List ℕ)) (k : List ℕ) (s : Pairs) (p : List ℕ × Data)
     (ps : Pairs) → value_among k (added E s ps) ≡ None
     → (b ≡ false → value_among k (added E (s ++ p ∷ []) ps) ≡ None) →
     value_among k (cond b (added E s ps) (added E (s ++ p ∷ []) ps)) ≡ None
-added-none-by true E k s p ps f g = f
-added-none-by false E k s p ps f g = g refl
+added-none-by b E k s p ps f g = grind arith
 
 other-by : (b : Bool) (E : List (List ℕ)) (k l : List ℕ) → (b ≡ true → has_key l E ≡ has_key k E)
     → has_key k E ≡ true → has_key l E ≡ false → b ≡ false
-other-by true E k l f h g = let e = f refl in cc
-other-by false E k l f h g = refl
+other-by b E k l f h g = grind arith
 
 alone : (k l : List ℕ) (d : Data) → bytes_eq l k ≡ false → value_among k ((l, d) ∷ []) ≡ None
 alone k l d h = ap (λ b. cond b (Some d) None) h
@@ -114,9 +106,7 @@ resolved-none-by : (b : Bool) (E : List (List ℕ)) (k : List ℕ) (s : Pairs) (
     has_key k (cond b [] (w.key ∷ []) ++ explicit_keys ws) ≡ false →
     value_among k (cond b (resolved E (added E s (merged_pairs w.value.tree)) ws)
     (resolved E (s ++ (w.key, w.value.tree) ∷ []) ws)) ≡ None
-resolved-none-by true E k s w ws f g h = f h
-resolved-none-by false E k s w ws f g h = let parts =
-    or-both (bytes_eq w.key k) (has_key k (explicit_keys ws)) h in g parts.0 parts.1
+resolved-none-by b E k s w ws f g h = grind arith
 
 resolved-none : (E : List (List ℕ)) (k : List ℕ) (s : Pairs) (ws : List Written)
     → has_key k E ≡ true → has_key k (explicit_keys ws) ≡ false → value_among k s ≡ None
@@ -139,8 +129,7 @@ resolved-append-by : (b : Bool) (E : List (List ℕ)) (s : Pairs) (w : Written) 
     (resolved E (s ++ (w.key, w.value.tree) ∷ []) (ws ++ us))
     ≡ resolved E (cond b (resolved E (added E s (merged_pairs w.value.tree)) ws)
     (resolved E (s ++ (w.key, w.value.tree) ∷ []) ws)) us
-resolved-append-by true E s w ws us f g = f
-resolved-append-by false E s w ws us f g = g
+resolved-append-by b E s w ws us f g = grind arith
 
 resolved-append : (E : List (List ℕ)) (s : Pairs) (ws us : List Written)
     → resolved E s (ws ++ us) ≡ resolved E (resolved E s ws) us
@@ -152,28 +141,24 @@ resolved-append E s (w ∷ ws) us = resolved-append-by w.merges E s w ws us
 explicit-append : (ws us : List Written)
     → explicit_keys (ws ++ us) ≡ explicit_keys ws ++ explicit_keys us
 explicit-append [] us = refl
-explicit-append (w ∷ ws) us = ap (λ ks. cond w.merges [] (w.key ∷ []) ++ ks) (explicit-append ws us)
-    ∙ sym (append_assoc (cond w.merges [] (w.key ∷ [])) (explicit_keys ws) (explicit_keys us))
+explicit-append (w ∷ ws) us = simp (append_assoc, (explicit-append ws us))
 
 here : (k : List ℕ) (d : Data) (rest : Pairs) → value_among k ((k, d) ∷ rest) ≡ Some d
 here k d rest = ap (λ b. cond b (Some d) (value_among k rest)) (same k)
 
 or-right : (a b : Bool) → b ≡ true → (a || b) ≡ true
-or-right true b h = refl
-or-right false b h = h
+or-right a b h = grind arith
 
 own-there : (m : Bool) (k : List ℕ) (ks : List (List ℕ)) → m ≡ false
     → has_key k (cond m [] (k ∷ []) ++ ks) ≡ true
-own-there true k ks h = cc
-own-there false k ks h = or-left (bytes_eq k k) (has_key k ks) (same k)
+own-there m k ks h = search rules
 
 own-step : (m : Bool) (E : List (List ℕ)) (s : Pairs) (w : Written) (ws : List Written) → m ≡ false
     →
     cond m (resolved E (added E s (merged_pairs w.value.tree)) ws)
     (resolved E (s ++ (w.key, w.value.tree) ∷ []) ws) ≡ resolved E
     (s ++ (w.key, w.value.tree) ∷ []) ws
-own-step true E s w ws h = cc
-own-step false E s w ws h = refl
+own-step m E s w ws h = grind arith
 
 pairs-back : (ps : Pairs) → pairs_of (entries_of ps) ≡ ps
 pairs-back [] = refl

@@ -1,7 +1,7 @@
 -- How deep values are at their keys.
-use Rattle.std.proofs.Common.{◌≡◌, ℕ, ◌≤◌, max, min, Bool, true, false, cond, List, [], ◌∷◌, ◌++◌}
-use Rattle.std.proofs.Common.{refl, sym, ap, ◌∙◌, arith, append-nil, true≢false, zero, suc, ◌<◌}
-use Rattle.std.proofs.Common.{map, drop, length, get_or, string_bytes, Global}
+use Rattle.std.proofs.Common.{◌≡◌, ℕ, ◌≤◌, max, min, Bool, true, cond, List, [], ◌∷◌, ◌++◌}
+use Rattle.std.proofs.Common.{refl, sym, ap, ◌∙◌, arith, append-nil, zero, suc, ◌<◌}
+use Rattle.std.proofs.Common.{map, drop, length, get_or, string_bytes, Global, rules}
 use Rattle.std.specs.Prelude.{String, bytes_eq, ◌&&◌}
 use Rattle.std.specs.List.{zip}
 use Rattle.std.specs.declared.rc.Rc.{Rc}
@@ -30,14 +30,12 @@ sifted-by : (b : Bool) (T : List (List ℕ)) (p : List ℕ × Data) (ps : Pairs)
     → min (pairs_depth (sift T ps)) 33 ≤ n
     → min (pairs_depth (cond b (sift T ps) (p ∷ sift (p.0 ∷ T) ps))) 33
     ≤ max (cond b 0 (min (depth p.1) 33)) n
-sifted-by true T p ps n h = omega (arith, h)
-sifted-by false T p ps n h = omega (arith, h, less-with p.0 T ps)
+sifted-by b T p ps n h = search (rules, less-with)
 
 sifted-less : (T : List (List ℕ)) (ps : Pairs)
     → min (pairs_depth (sift T ps)) 33 ≤ visible (key_depths ps) T
 sifted-less T [] = omega arith
-sifted-less T (p ∷ ps) =
-    sifted-by (has_key p.0 T) T p ps (visible (key_depths ps) T) (sifted-less T ps)
+sifted-less T (p ∷ ps) = grind (arith, sifted-by, (sifted-less T ps))
 
 -- what a merged value brings, the first of each key
 pub brought-visible : (d : Data) (qs : Pairs) → qs ≡ (gathered ([], []) (merged_pairs d)).0
@@ -52,14 +50,10 @@ brought-visible d qs e T =
 pub push-visible : (ds es : List KeyDepth) (d : KeyDepth) (U : List (List ℕ)) → es ≡ ds ++ d ∷ []
     → visible (depths_view es) U ≡ max (visible (depths_view ds) U)
     (at_key (string_bytes d.key) d.depth U)
-push-visible ds es d U e =
-    ap (λ xs. visible (depths_view xs) U) e
-    ∙ ap (λ xs. visible xs U) (map-append (λ x. (string_bytes x.key, x.depth)) ds (d ∷ []))
-    ∙ visible-push (depths_view ds) (string_bytes d.key, d.depth) U
+push-visible ds es d U e = grind (arith, map-append, string_bytes, visible-push)
 
 or-three : (a b c : Bool) → ((a || b) || c) ≡ (a || (b || c))
-or-three true b c = refl
-or-three false b c = refl
+or-three a b c = grind arith
 
 keys-drop : (ks : List (String Global)) (vs : List (Rc Tree Global)) (i : ℕ) (d : String Global)
     → i < length ks → i < length vs
@@ -78,11 +72,7 @@ pub key-next : (k : List ℕ) (ks : List (String Global)) (vs : List (Rc Tree Gl
     → (new || has_key k (keys_of
     (zip (map string_bytes (drop (suc i) ks)) (map rc_view (drop (suc i) vs)))))
     ≡ (old || has_key k (keys_of (zip (map string_bytes (drop i ks)) (map rc_view (drop i vs)))))
-key-next k ks vs i d old new h l is e =
-    let rest = keys_of (zip (map string_bytes (drop (suc i) ks)) (map rc_view (drop (suc i) vs))) in
-    ap (λ b. b || has_key k rest) e ∙ or-three old (bytes_eq (string_bytes d) k) (has_key k rest)
-    ∙ ap (λ x. old || (bytes_eq (string_bytes x) k || has_key k rest)) is
-    ∙ sym (ap (λ xs. old || has_key k xs) (keys-drop ks vs i d h l))
+key-next k ks vs i d old new h l is e = grind (arith, string_bytes, or-three, keys-drop)
 
 pub so-far-merged : (ws : List Written) (k : List ℕ) → has_key k (merged_keys ws) ≡ true
     → has_key k (keys_so_far ws) ≡ true
@@ -95,30 +85,16 @@ so-far-merged ws k h =
 
 merges-by : (m : Bool) (k : List ℕ) (ks : List (List ℕ))
     → has_key k (cond m ks []) ≡ (m && has_key k ks)
-merges-by true k ks = refl
-merges-by false k ks = refl
+merges-by m k ks = grind arith
 
 or-last : (a x c : Bool) → ((a || x) || c) ≡ ((a || c) || x)
-or-last true x c = refl
-or-last false true true = refl
-or-last false true false = refl
-or-last false false true = refl
-or-last false false false = refl
+or-last a x c = grind arith
 
 pub merged-push : (k : List ℕ) (ws : List Written) (w : Written)
     → has_key k (merged_keys (ws ++ w ∷ []))
     ≡ (has_key k (merged_keys ws) || (w.merges && has_key k (keys_of (merged_pairs w.value.tree))))
 merged-push k [] w = merges-by w.merges k (keys_of (merged_pairs w.value.tree))
-merged-push k (u ∷ ws) w =
-    let x = w.merges && has_key k (keys_of (merged_pairs w.value.tree)) in
-    let C = cond u.merges (keys_of (merged_pairs u.value.tree)) [] in
-    has_key-append k (merged_keys (ws ++ w ∷ [])) C
-    ∙ ap (λ b. b || has_key k C) (merged-push k ws w)
-    ∙ or-last (has_key k (merged_keys ws)) x (has_key k C)
-    ∙ ap (λ b. b || x) (sym (has_key-append k (merged_keys ws) C))
+merged-push k (u ∷ ws) w = simp (has_key-append, or-last, (merged-push k ws w))
 
 pub or-from : (a b c : Bool) → (a ≡ true → b ≡ true) → (a || c) ≡ true → (b || c) ≡ true
-or-from true true c h e = refl
-or-from true false c h e = absurd (true≢false (sym (h refl)))
-or-from false true c h e = refl
-or-from false false c h e = e
+or-from a b c h e = grind arith

@@ -1,8 +1,7 @@
 -- One entry more, and small values in the place of others.
-use Rattle.std.proofs.Common.{◌≡◌, ℕ, cond, Bool, true, false, List, [], ◌∷◌, ◌++◌, refl, sym, ap}
+use Rattle.std.proofs.Common.{◌≡◌, ℕ, cond, Bool, true, false, List, [], ◌∷◌, ◌++◌, ap}
 use Rattle.std.proofs.Common.{◌∙◌, append_assoc, rules, Global, suc, ◌+◌, ◌<◌, ◌≤◌, map, drop, take}
-use Rattle.std.proofs.Common.{length, get_or, drop-cons, subst, arith}
-use Rattle.std.proofs.lemmas.Bool.{false≢true}
+use Rattle.std.proofs.Common.{length, get_or, drop-cons, arith}
 use Rattle.std.proofs.lemmas.List.{take_more}
 use Rattle.std.specs.Prelude.{String, string_bytes, ◌||◌, ◌&&◌}
 use Rattle.std.specs.List.{zip}
@@ -36,13 +35,11 @@ size-whole p t e = search (rules, the_lemmas)
 
 pub takes-own : (T : List (List ℕ)) (w : Written) (b : Bool) → w.merges ≡ false
     → has_key w.key T ≡ b → takes T (w ∷ []) ≡ cond b T (w.key ∷ T)
-takes-own T w b m h = ap (λ x. cond x T (cond (has_key w.key T) T (w.key ∷ T))) m
-    ∙ ap (λ x. cond x T (w.key ∷ T)) h
+takes-own T w b m h = grind arith
 
 pub kept-own : (T : List (List ℕ)) (w : Written) (b : Bool) → w.merges ≡ false
     → has_key w.key T ≡ b → kept T (w ∷ []) ≡ cond b [] (w ∷ [])
-kept-own T w b m h = ap (λ x. cond x (w ∷ []) (cond (has_key w.key T) [] (w ∷ []))) m
-    ∙ ap (λ x. cond x [] (w ∷ [])) h
+kept-own T w b m h = grind arith
 
 pub takes-merging : (T : List (List ℕ)) (w : Written) → w.merges ≡ true → takes T (w ∷ []) ≡ T
 takes-merging T w m = ap (λ x. cond x T (cond (has_key w.key T) T (w.key ∷ T))) m
@@ -53,8 +50,7 @@ merged-one w m = ap (λ x. cond x (w.value.tree ∷ []) []) m
 pub after-own : (out : Pairs) (T : List (List ℕ)) (p : List ℕ × Data) (g : Pairs × List (List ℕ))
     (rest : List Written) → g ≡ (out ++ p ∷ [], T)
     → g.0 ++ later g.1 rest ≡ out ++ p ∷ later T rest
-after-own out T p g rest e =
-    ap (λ h. h.0 ++ later h.1 rest) e ∙ append_assoc out (p ∷ []) (later T rest)
+after-own out T p g rest e = grind (arith, append_assoc)
 
 abbrev made : Data → ℕ → Value
 made d n = record { tree = d; nodes = n }
@@ -67,44 +63,33 @@ abbrev pub thin_for : Bool → ℕ → Data
 thin_for b line = cond b (sequence no_items line) (scalar (120 ∷ []) line)
 
 pub thin-mergeable : (b : Bool) (line : ℕ) → is_mergeable (thin_for b line) ≡ b
-thin-mergeable true line = refl
-thin-mergeable false line = refl
+thin-mergeable b line = grind arith
 
 pub thin-depth : (b : Bool) (line : ℕ) → depth (thin_for b line) ≡ 1
-thin-depth true line = refl
-thin-depth false line = refl
+thin-depth b line = grind arith
 
 pub thin-scalar : (d : Data) → is_scalar d ≡ true → thin d ≡ d
-thin-scalar (scalar text line) e = refl
-thin-scalar (sequence ds line) e = absurd (false≢true e)
-thin-scalar (mapping es line) e = absurd (false≢true e)
+thin-scalar d e = grind arith
 
 pub thin-map : (d : Data) → is_map d ≡ true → thin d ≡ mapping no_entries (line_of d)
-thin-map (scalar text line) e = absurd (false≢true e)
-thin-map (sequence ds line) e = absurd (false≢true e)
-thin-map (mapping es line) e = refl
+thin-map d e = grind arith
 
 pub same-pair : {A B : Type 0} (a b : A) (c d : B) → a ≡ b → c ≡ d → ◌≡◌ {A = A × B} (a, c) (b, d)
-same-pair {A} {B} a b c d p q =
-    ap (λ (x : A). (x, c)) p ∙ ap (λ (y : B). (b, y)) q
+same-pair {A} {B} a b c d p q = grind arith
 
 pub gathered-by-key : (b : Bool) (g : Pairs × List (List ℕ)) (k : List ℕ) (d : Data)
     → has_key k g.1 ≡ b → gathered g ((k, d) ∷ []) ≡ cond b g (g.0 ++ (k, d) ∷ [], k ∷ g.1)
 gathered-by-key b g k d e = ap (λ x. cond x g (g.0 ++ (k, d) ∷ [], k ∷ g.1)) e
 
 pub or-swap : (a b : Bool) → (a || b) ≡ (b || a)
-or-swap true true = refl
-or-swap true false = refl
-or-swap false true = refl
-or-swap false false = refl
+or-swap a b = grind arith
 
 resolved-by : (m : Bool) (E : List (List ℕ)) (s : Pairs) (w : Written) (ws : List Written) →
     cond m (resolved E (added E s (merged_pairs w.value.tree)) ws)
     (resolved E (s ++ (w.key, w.value.tree) ∷ []) ws)
     ≡ resolved E
     (cond m (added E s (merged_pairs w.value.tree)) (s ++ (w.key, w.value.tree) ∷ [])) ws
-resolved-by true E s w ws = refl
-resolved-by false E s w ws = refl
+resolved-by m E s w ws = grind arith
 
 pub resolved-step : (E : List (List ℕ)) (s : Pairs) (w : Written) (ws : List Written)
     → resolved E s (w ∷ ws) ≡ resolved E (resolved E s (w ∷ [])) ws
@@ -115,12 +100,7 @@ pub zip-step : (ks : List (String Global)) (vs : List (Rc Tree Global)) (i : ℕ
     (v : Rc Tree Global) → i < length ks → i < length vs → k ≡ get_or ks i k → v ≡ get_or vs i v →
     zip (map string_bytes (drop i ks)) (map rc_view (drop i vs)) ≡ (string_bytes k, rc_view v)
     ∷ zip (map string_bytes (drop (suc i) ks)) (map rc_view (drop (suc i) vs))
-zip-step ks vs i k v l m e f =
-    ap (λ (us : List (String Global)). zip (map string_bytes us) (map rc_view (drop i vs)))
-    (drop-cons ks i k l ∙ ap (λ u. u ∷ drop (suc i) ks) (sym e))
-    ∙ ap (λ (us : List (Rc Tree Global)). zip
-    (string_bytes k ∷ map string_bytes (drop (suc i) ks)) (map rc_view us))
-    (drop-cons vs i v m ∙ ap (λ u. u ∷ drop (suc i) vs) (sym f))
+zip-step ks vs i k v l m e f = grind (arith, drop-cons)
 
 -- A loop that pushes what it makes of each item: `view` tells what was pushed, `told` what the
 -- items so far give.
@@ -128,23 +108,14 @@ pub pushed : {A B C : Type 0} (view : A → C) (told : List B → List C) (one :
     (step : (ys : List B) (y : B) → told (ys ++ y ∷ []) ≡ told ys ++ one y ∷ []) (xs new : List A)
     (a : A) (ys : List B) (i : ℕ) (d : B) → new ≡ xs ++ a ∷ [] → map view xs ≡ told (take i ys)
     → i < length ys → view a ≡ one (get_or ys i d) → map view new ≡ told (take (i + 1) ys)
-pushed {A} {B} {C} view told one step xs new a ys i d e h l s =
-    ap (map view) e ∙ map-append view xs (a ∷ []) ∙ ap (λ (cs : List C). cs ++ view a ∷ []) h
-    ∙ ap (λ (c : C). told (take i ys) ++ c ∷ []) s
-    ∙ sym (ap told (take_more ys i d l) ∙ step (take i ys) (get_or ys i d))
+pushed {A} {B} {C} view told one step xs new a ys i d e h l s = grind (arith, map-append, take_more)
 
 pub map-map-push : {A B C : Type 0} (f : A → B) (g : B → C) (xs : List A) (x : A)
     → map g (map f (xs ++ x ∷ [])) ≡ map g (map f xs) ++ g (f x) ∷ []
-map-map-push f g xs x =
-    ap (map g) (map-append f xs (x ∷ [])) ∙ map-append g (map f xs) (f x ∷ [])
+map-map-push f g xs x = simp map-append
 
 -- the depth that an entry brings, from that of the same entry told apart from its keys
 pub brought-same : (m : Bool) (E : List (List ℕ)) (h k : Bool) (d e : Data) (n l : ℕ) →
     (m ≡ true → h ≡ k) → d ≡ e → n ≤ l
     → deepest_brought E (m && h) d n ≤ deepest_brought E (m && k) e l
-brought-same true E true k d e n l f p q =
-    subst (λ (b : Bool). deepest_brought E true d n ≤ deepest_brought E b e l) (f refl)
-    (subst (λ (x : Data). deepest_brought E true d n ≤ deepest_brought E true x l) p (omega arith))
-brought-same true E false k d e n l f p q =
-    subst (λ (b : Bool). n ≤ deepest_brought E b e l) (f refl) q
-brought-same false E h k d e n l f p q = q
+brought-same m E h k d e n l f p q = grind arith

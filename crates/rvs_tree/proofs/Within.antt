@@ -1,9 +1,9 @@
 -- How deep a value can be with something new in it, wherever it is merged.
 use Rattle.std.proofs.Common.{◌≡◌, ℕ, suc, ◌≤◌, max, Bool, true, false, cond, List, [], ◌∷◌, ◌++◌}
-use Rattle.std.proofs.Common.{refl, sym, ap, ◌∙◌, arith, append_assoc, append-nil, true≢false}
+use Rattle.std.proofs.Common.{refl, sym, ap, ◌∙◌, arith, append_assoc, append-nil}
 use Rattle.std.specs.Prelude.{◌||◌, bytes_eq}
 use Rattle.std.proofs.lemmas.Slice.Eq.{bytes_eq-Decides}
-use Rattle.rvs_tree.specs.Data.{Data, scalar, sequence, mapping, Pairs, depth, own_pairs}
+use Rattle.rvs_tree.specs.Data.{Data, Pairs, depth, own_pairs}
 use Rattle.rvs_tree.specs.Value.{Value, Written, trees, list_value, map_value, has_key, keys_of}
 use Rattle.rvs_tree.specs.Value.{resolved, explicit_keys, pairs_in, merged_pairs}
 use Rattle.rvs_tree.specs.Bound.{values_depth, pairs_depth}
@@ -38,9 +38,7 @@ pub record Fits (f : Shown) (n : ℕ) (d : Data) : Type 0 where
 
 own-merged : (T : List (List ℕ)) (d : Data)
     → pairs_depth (sift T (own_pairs d)) ≤ pairs_depth (sift T (merged_pairs d))
-own-merged T (scalar text line) = omega arith
-own-merged T (sequence ds line) = omega arith
-own-merged T (mapping es line) = omega arith
+own-merged T d = grind arith
 
 pub fits-own : (f : Shown) (n : ℕ) (d : Data) → Fits f n d → (T : List (List ℕ))
     → pairs_depth (sift T (own_pairs d)) ≤ f T
@@ -48,19 +46,14 @@ fits-own f n d h T = omega (arith, own-merged T d, h.merged T)
 
 -- a value that is new
 pub within-new : (f : Shown) (n : ℕ) (d e : Data) → Fits f n e → Within f n d e
-within-new f n d e h = record {
-  deep = omega (arith, h.deep);
-  own = λ T. omega (arith, fits-own f n e h T);
-  merged = λ T. omega (arith, h.merged T);
-}
+within-new f n d e h = grind (arith, fits-own)
 
 trees-push : (vs : List Value) (v : Value) → trees (vs ++ v ∷ []) ≡ trees vs ++ v.tree ∷ []
 trees-push vs v = map-append (λ u. u.tree) vs (v ∷ [])
 
 pairs_in-push : (ds : List Data) (d : Data) → pairs_in (ds ++ d ∷ []) ≡ pairs_in ds ++ own_pairs d
 pairs_in-push [] d = append-nil (own_pairs d)
-pairs_in-push (e ∷ ds) d = ap (λ ps. own_pairs e ++ ps) (pairs_in-push ds d)
-    ∙ sym (append_assoc (own_pairs e) (pairs_in ds) (own_pairs d))
+pairs_in-push (e ∷ ds) d = simp (append_assoc, (pairs_in-push ds d))
 
 list-pairs : (line : ℕ) (vs : List Value)
     → merged_pairs (list_value line vs).tree ≡ pairs_in (trees vs)
@@ -77,20 +70,11 @@ list-deep line vs = ap suc (list-depth vs)
 -- pairs behind others
 behind : (f : Shown) (s ps qs : Pairs) → Bounded f ps qs
     → Bounded (λ T. f (keys_of s ++ T)) (s ++ ps) (s ++ qs)
-behind f s ps qs h T =
-    omega (
-      arith,
-      h (keys_of s ++ T),
-      ap pairs_depth (sift-append T s ps),
-      ap pairs_depth (sift-append T s qs),
-      pairs_depth-append (sift T s) (sift (keys_of s ++ T) ps),
-      pairs_depth-append (sift T s) (sift (keys_of s ++ T) qs),
-    )
+behind f s ps qs h T = grind (arith, sift-append, pairs_depth-append)
 
 along : (f : Shown) (ps qs us vs : Pairs) → ps ≡ us → qs ≡ vs → Bounded f us vs
     → Bounded f ps qs
-along f ps qs us vs e g h T =
-    omega (arith, h T, ap (λ x. pairs_depth (sift T x)) e, ap (λ x. pairs_depth (sift T x)) g)
+along f ps qs us vs e g h T = grind arith
 
 -- in a list
 pub within-list : (f : Shown) (n line : ℕ) (vs : List Value) (u v : Value)
@@ -156,32 +140,25 @@ map-within f n line us ws d h = record {
 -- with a key of its own at the end
 own-keys : (ws : List Written) (w : Written) → w.merges ≡ false
     → explicit_keys (ws ++ w ∷ []) ≡ explicit_keys ws ++ w.key ∷ []
-own-keys ws w e =
-    explicit_keys-push ws w ∙ ap (λ b. explicit_keys ws ++ cond b [] (w.key ∷ [])) e
+own-keys ws w e = grind (arith, explicit_keys-push)
 
 own-pairs : (ws : List Written) (w : Written) → w.merges ≡ false
     → pairs (ws ++ w ∷ [])
     ≡ resolved (explicit_keys ws ++ w.key ∷ []) [] ws ++ (w.key, w.value.tree) ∷ []
-own-pairs ws w e =
-    let F = explicit_keys ws ++ w.key ∷ [] in
-    ap (λ ks. resolved ks [] (ws ++ w ∷ [])) (own-keys ws w e) ∙ resolved-append F [] ws (w ∷ [])
-    ∙ last-own F (resolved F [] ws) w e
+own-pairs ws w e = simp (own-keys, resolved-append, last-own)
 
 one-by : (b : Bool) (n : ℕ) (T : List (List ℕ)) (k : List ℕ) (d e : Data)
     → depth e ≤ max (depth d) n
     → pairs_depth (cond b (sift T []) ((k, e) ∷ sift (k ∷ T) []))
     ≤ max (pairs_depth (cond b (sift T []) ((k, d) ∷ sift (k ∷ T) []))) (cond b 0 n)
-one-by true n T k d e h = omega arith
-one-by false n T k d e h = omega (arith, h)
+one-by b n T k d e h = grind arith
 
 one : (n : ℕ) (k : List ℕ) (d e : Data) → depth e ≤ max (depth d) n
     → Bounded (at_key k n) ((k, d) ∷ []) ((k, e) ∷ [])
 one n k d e h T = one-by (has_key k T) n T k d e h
 
 pub at-behind-by : (b c : Bool) (n : ℕ) → (c ≡ true → b ≡ true) → cond b 0 n ≤ cond c 0 n
-at-behind-by true c n h = omega arith
-at-behind-by false true n h = absurd (true≢false (sym (h refl)))
-at-behind-by false false n h = omega arith
+at-behind-by b c n h = grind arith
 
 at-behind : (k : List ℕ) (n : ℕ) (X T : List (List ℕ)) → at_key k n (X ++ T) ≤ at_key k n T
 at-behind k n X T = at-behind-by (has_key k (X ++ T)) (has_key k T) n (λ e. in-more k X T e)
@@ -261,14 +238,12 @@ within-merge-more f n line ws w e h =
     omega (arith, h.merged (T ++ K), ap pairs_depth (sift-sift T K (merged_pairs w.value.tree))))))
 
 not-true : (b : Bool) → (b ≡ true → ⊥) → b ≡ false
-not-true true n = absurd (n refl)
-not-true false n = refl
+not-true b n = grind arith
 
 -- Where an own key is new, what was there is what was there without it.
 other : (ws : List Written) (k j : List ℕ) → has_key k (explicit_keys ws) ≡ false
     → has_key j (explicit_keys ws) ≡ true → bytes_eq k j ≡ false
-other ws k j new there = not-true (bytes_eq k j) (λ e. true≢false
-    (sym there ∙ ap (λ i. has_key i (explicit_keys ws)) (sym ((bytes_eq-Decides k j).0 e)) ∙ new))
+other ws k j new there = grind (arith, not-true, bytes_eq-Decides)
 
 dropped : (ws : List Written) (k : List ℕ) (T : List (List ℕ))
     → has_key k (explicit_keys ws) ≡ false
@@ -296,8 +271,7 @@ less-with k T ps =
 
 one-less-by : (b : Bool) (n : ℕ) (T : List (List ℕ)) (k : List ℕ) (d : Data) → depth d ≤ n
     → pairs_depth (cond b (sift T []) ((k, d) ∷ sift (k ∷ T) [])) ≤ cond b 0 n
-one-less-by true n T k d h = omega arith
-one-less-by false n T k d h = omega (arith, h)
+one-less-by b n T k d h = grind arith
 
 -- a map with a new key of its own more
 pub within-own-more : (n line : ℕ) (ws : List Written) (w : Written) → w.merges ≡ false

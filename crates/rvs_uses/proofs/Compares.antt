@@ -3,9 +3,11 @@ use Rattle.std.proofs.Common.{◌≡◌, ◌≢◌, ◌≤◌, inl, inr, ℕ, Li
 use Rattle.std.proofs.Common.{refl, sym, ap, subst, ◌∙◌}
 use Rattle.rvs_base.specs.Host.{Files}
 use Rattle.rvs_plan.specs.Inputs.{part_end}
+use Rattle.rvs_plan.specs.Refusing.{input_text}
 use Rattle.rvs_plan.specs.declared.stop.Stop.{Stop}
 use Rattle.rvs_plan.specs.declared.stop.Stop.TheVariants.{Refused, NoFile}
 use Rattle.rvs_plan.proofs.FoundInputs.{found-none, found-whole}
+use Rattle.rvs_sig.specs.Printed.{refusal_text}
 use Rattle.rvs_sig.specs.Verdicts.{verdict_of}
 use Rattle.rvs_sig.specs.Words.{words_of}
 use Rattle.rvs_sig.specs.declared.words.SigRefusal.{SigRefusal}
@@ -15,7 +17,7 @@ use Rattle.rvs_plain.specs.Compare.{words_end}
 use Rattle.rvs_suite.specs.Comparing as suite
 use Rattle.rvs_suite.specs.Comparing.{Both, words_in, both_in}
 use Rattle.rvs_inputs.specs.GroupFiles.{and_then}
-use Rattle.rvs_plain.specs.Texts.{same_line, verdict_line, refusal_text}
+use Rattle.rvs_plain.specs.Texts.{same_line, verdict_line}
 use Rattle.rvs_suite.proofs.Meanings.{then-ok, then-err, whole-of}
 use Rattle.rvs_uses.specs.Comparing as comparing
 use Rattle.rvs_uses.specs.Laws.{ComparesFiles, PassesTheSame}
@@ -55,8 +57,8 @@ none-by : (name bytes text : List ℕ) (r : Result (List ℕ) SigRefusal)
     → SpellsNone name bytes text
 none-by name bytes text (Ok w) within spelt is = absurd cc
 none-by name bytes text (Err refusal) within spelt is =
-    let e : Err (Refused (refusal_text name refusal)) ≡ Err (Refused text) = is in
-    let same : refusal_text name refusal ≡ text = cc in
+    let e : Err (Refused (input_text name (refusal_text refusal))) ≡ Err (Refused text) = is in
+    let same : input_text name (refusal_text refusal) ≡ text = cc in
     record { within = within; refusal = refusal; spelt = spelt; text_is = sym same }
 
 refused-of : (files : Files) (name text : List ℕ) → words_in files name ≡ Err (Refused text)

@@ -5,6 +5,7 @@ use Rattle.std.proofs.Common.{◌⊎◌, ◌∙◌}
 use Rattle.std.proofs.lemmas.Bool.{ltb-true}
 use Rattle.rvs_base.specs.Host.{Files}
 use Rattle.rvs_plan.specs.Inputs.{part_end, too_long_text}
+use Rattle.rvs_plan.specs.Refusing.{input_text}
 use Rattle.rvs_plan.specs.declared.stop.Stop.{Stop}
 use Rattle.rvs_plan.specs.declared.stop.Stop.TheVariants.{Refused, NoFile}
 use Rattle.rvs_plan.proofs.FoundInputs.{found-none, found-long, found-whole}
@@ -13,11 +14,12 @@ use Rattle.rvs_plan.specs.declared.status.Status.TheVariants as answer
 use Rattle.rvs_tree.specs.Data.{Data}
 use Rattle.rvs_yaml.specs.Parsed.{Parsed, answer as parsed}
 use Rattle.rvs_isa.specs.Check.{checked}
+use Rattle.rvs_isa.specs.Print.{refusal_text}
 use Rattle.rvs_isa.specs.declared.accepted_spec.AcceptedSpec.{AcceptedSpec}
 use Rattle.rvs_isa.specs.declared.refusal.IsaRefusal.{IsaRefusal}
 use Rattle.rvs_suite.specs.Says.{Says}
-use Rattle.rvs_inputs.specs.Specification.{isa_limit, yaml_text, isa_text, checked_end, tree_end}
-use Rattle.rvs_inputs.specs.Specification.{bytes_said, said_in}
+use Rattle.rvs_inputs.specs.Specification.{isa_limit, yaml_text, checked_end, tree_end, bytes_said}
+use Rattle.rvs_inputs.specs.Specification.{said_in}
 use Rattle.rvs_suite.proofs.Meanings.{whole-of}
 use Rattle.rvs_uses.specs.Limits.{PassesLimit}
 use Rattle.rvs_uses.specs.Says.{IsRefused}
@@ -99,8 +101,8 @@ check-by : (files : Files) (name bytes text : List ℕ) (tree : Data)
     → IsRefused files name text
 check-by files name bytes text tree (Ok said) there within has failed is = absurd cc
 check-by files name bytes text tree (Err refusal) there within has failed is =
-    let e : Err (Refused (isa_text name refusal)) ≡ Err (Refused text) = is in
-    let same : isa_text name refusal ≡ text = cc in
+    let e : Err (Refused (input_text name (refusal_text refusal))) ≡ Err (Refused text) = is in
+    let same : input_text name (refusal_text refusal) ≡ text = cc in
     record {
       bytes = bytes;
       there = there;

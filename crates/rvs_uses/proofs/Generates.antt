@@ -5,7 +5,7 @@ use Rattle.rvs_base.specs.Host.{Files}
 use Rattle.rvs_insn.specs.Isa.{Isa}
 use Rattle.rvs_cgf.specs.Groups.{Label, Point}
 use Rattle.rvs_log.specs.Logs.{as_entry}
-use Rattle.rvs_count.specs.Counting.{count}
+use Rattle.rvs_index.specs.Counting.{count}
 use Rattle.rvs_solver.specs.Solving.{IsSolvableAt}
 use Rattle.rvs_generate.specs.Tests.{run_on}
 use Rattle.rvs_suite.specs.Headline.{IsKept, HasProvedTest}

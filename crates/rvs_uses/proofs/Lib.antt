@@ -5,4 +5,5 @@ mod References
 mod Generates
 mod Made
 mod Halted
+mod PartsApart
 mod Parting

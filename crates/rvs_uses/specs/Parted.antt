@@ -15,12 +15,13 @@ use Rattle.rvs_inputs.specs.DatabaseInput.{marked}
 use Rattle.rvs_generate.specs.GenerateTexts.{label_text, total_line, none, with_labels, listing}
 use Rattle.rvs_inputs.specs.GroupFiles.{Inputs, and_then, parted_inputs}
 use Rattle.rvs_generate.specs.TestedInputs.{labels_in}
-use Rattle.rvs_run.specs.RunDatabase.{Given, chosen}
-use Rattle.rvs_suite.specs.RunLeft.{verdict_lines, passed_onto}
+use Rattle.rvs_run.specs.RunDatabase.{chosen}
+use Rattle.rvs_suite.specs.RunLeft.{Trial, trial_of, trial_lines, trials_passed}
 use Rattle.rvs_run.specs.RunTests.{Bench, verdict_of_all}
 use Rattle.rvs_generate.specs.TestFiles.{files_of}
 use Rattle.rvs_generate.specs.Tests.{tests_of_label, tests_of}
 use Rattle.rvs_generate.specs.declared.gathering.Test.{Test}
+use Rattle.rvs_generate.specs.declared.sources.Given.{Given}
 
 -- the part of this number of so many
 abbrev pub part_of : ℕ → ℕ → PartValue
@@ -83,14 +84,16 @@ PartsList = (isa : Isa) (labels : List Label) (part : Option PartValue)
     ≡ flat_map (λ text. text) (parted part (map (label_text isa) labels))
     ++ total_line (with_labels isa none (parted part labels))
 
--- the lines of the verdicts on the tests of labels, where these are the runs of the device
+-- the trials of tests, where these are the runs of the device
+abbrev pub trials_by : Bench → (Test → DeviceRun) → List Test → List Trial
+trials_by bench run tests = map (λ test. trial_of bench test (run test)) tests
+
+-- the lines of the verdicts on the tests of labels
 abbrev pub told_of : Bench → (Test → DeviceRun) → List Label → List ℕ
-told_of bench run labels =
-    verdict_lines bench (tests_of bench.isa labels) (map run (tests_of bench.isa labels))
+told_of bench run labels = trial_lines (trials_by bench run (tests_of bench.isa labels))
 
 abbrev pub told_of_label : Bench → (Test → DeviceRun) → Label → List ℕ
-told_of_label bench run l =
-    verdict_lines bench (tests_of_label bench.isa l) (map run (tests_of_label bench.isa l))
+told_of_label bench run l = trial_lines (trials_by bench run (tests_of_label bench.isa l))
 
 -- where the device leaves the same of a test in a part as in the whole, a part tells the verdicts
 -- of its labels as the whole does
@@ -105,7 +108,7 @@ number_of_tests isa labels = length (tests_of isa labels)
 
 abbrev pub number_passed : Bench → (Test → DeviceRun) → List Label → ℕ
 number_passed bench run labels =
-    passed_onto bench 0 (tests_of bench.isa labels) (map run (tests_of bench.isa labels))
+    trials_passed 0 (trials_by bench run (tests_of bench.isa labels))
 
 -- so the totals of all parts add up to those of the whole
 abbrev pub PartsCount : Type 0

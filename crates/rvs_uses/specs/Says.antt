@@ -2,16 +2,17 @@
 use Rattle.std.specs.Prelude.{◌≡◌, ◌≤◌, ◌⊎◌, ℕ, List, length, Some, None, Ok, Err}
 use Rattle.rvs_base.specs.Host.{Files}
 use Rattle.rvs_base.specs.Sink.{SinkState, appended}
+use Rattle.rvs_plan.specs.Refusing.{input_text}
 use Rattle.rvs_tree.specs.Data.{Data}
 use Rattle.rvs_yaml.specs.Parsed.{answer}
 use Rattle.rvs_yaml_text.specs.declared.kind.YamlKind.{YamlKind}
 use Rattle.rvs_isa.specs.Check.{checked}
-use Rattle.rvs_isa.specs.Print.{checked_text}
+use Rattle.rvs_isa.specs.Print.{checked_text, refusal_text}
 use Rattle.rvs_isa.specs.declared.accepted_spec.AcceptedSpec.{AcceptedSpec}
 use Rattle.rvs_isa.specs.declared.refusal.IsaRefusal.{IsaRefusal}
 use Rattle.rvs_suite.specs.Says.{Says}
 use Rattle.rvs_uses.specs.Limits.{PassesLimit}
-use Rattle.rvs_inputs.specs.Specification.{isa_limit, yaml_text, isa_text}
+use Rattle.rvs_inputs.specs.Specification.{isa_limit, yaml_text}
 
 -- the file is within its limit and has no tree, for the first fault in it
 pub record HasNoTree (name bytes text : List ℕ) : Type 0 where
@@ -28,7 +29,7 @@ pub record FailsCheck (name bytes text : List ℕ) : Type 0 where
   pub has_tree : answer bytes ≡ Ok tree
   pub refusal : IsaRefusal
   pub failed : checked tree ≡ Err refusal
-  pub text_is : text ≡ isa_text name refusal
+  pub text_is : text ≡ input_text name (refusal_text refusal)
 
 -- the named file is there and is refused, for the reason that this text says
 pub record IsRefused (files : Files) (name text : List ℕ) : Type 0 where

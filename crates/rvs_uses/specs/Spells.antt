@@ -2,11 +2,13 @@
 use Rattle.std.specs.Prelude.{◌≡◌, ◌≢◌, ◌≤◌, ◌⊎◌, ℕ, List, length, Some, None, Ok, Err}
 use Rattle.rvs_base.specs.Host.{Files}
 use Rattle.rvs_base.specs.Sink.{SinkState, appended}
+use Rattle.rvs_plan.specs.Refusing.{input_text}
+use Rattle.rvs_sig.specs.Printed.{refusal_text}
 use Rattle.rvs_sig.specs.Words.{words_of}
 use Rattle.rvs_sig.specs.Verdicts.{verdict_of}
 use Rattle.rvs_sig.specs.declared.words.SigRefusal.{SigRefusal}
 use Rattle.rvs_uses.specs.Limits.{PassesLimit}
-use Rattle.rvs_plain.specs.Texts.{same_line, verdict_line, refusal_text}
+use Rattle.rvs_plain.specs.Texts.{same_line, verdict_line}
 use Rattle.rvs_device.specs.Judged.{signature_limit}
 
 -- the named file is there, within its limit, and spells these words
@@ -21,7 +23,7 @@ pub record SpellsNone (name bytes text : List ℕ) : Type 0 where
   pub within : length bytes ≤ signature_limit
   pub refusal : SigRefusal
   pub spelt : words_of bytes ≡ Err refusal
-  pub text_is : text ≡ refusal_text name refusal
+  pub text_is : text ≡ input_text name (refusal_text refusal)
 
 -- the named file is there and is refused, for the reason that this text says
 pub record IsRefused (files : Files) (name text : List ℕ) : Type 0 where

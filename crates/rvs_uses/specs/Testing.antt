@@ -8,7 +8,7 @@ use Rattle.rvs_asm_text.specs.Header.{header_steps}
 use Rattle.rvs_asm.specs.Answer.{answer}
 use Rattle.rvs_cgf.specs.Groups.{Label, Point}
 use Rattle.rvs_log.specs.Logs.{as_entry}
-use Rattle.rvs_count.specs.Counting.{count}
+use Rattle.rvs_index.specs.Counting.{count}
 use Rattle.rvs_solver.specs.Solving.{IsSolvableAt}
 use Rattle.rvs_generate.specs.Generate.{path_of}
 use Rattle.rvs_inputs.specs.GroupFiles.{Inputs}

@@ -1,18 +1,17 @@
 -- The text of a number gives it.
 use Rattle.std.proofs.Common.{◌≡◌, ℕ, ◌<◌, ◌≤◌, Bool, true}
-use Rattle.std.proofs.Common.{cond, List, [], ◌∷◌, length, get_or, Option, Some, None}
+use Rattle.std.proofs.Common.{cond, List, length, get_or, Option, Some, None}
 use Rattle.std.proofs.Common.{ap, ◌∙◌, arith}
 use Rattle.std.proofs.lemmas.Bool.Decides.{nat_tests}
 use Rattle.std.proofs.lemmas.Bool.{le-leb}
 use Rattle.std.proofs.lemmas.Fmt.{length-decimal-le, first_decimal}
-use Rattle.std.specs.Prelude.{◌&&◌, nat_le, option_map, option_and_then, unwrap_or}
+use Rattle.std.specs.Prelude.{◌&&◌, nat_le, unwrap_or}
 use Rattle.std.specs.Fmt.{decimal}
 use Rattle.rvs_words.specs.Words.{is_positional}
-use Rattle.rvs_base.specs.Asked.{size_of}
 use Rattle.rvs_base.specs.Digits.{digits_of}
 use Rattle.rvs_base.proofs.Readings.{digits_of-decimal}
 use Rattle.rvs_text.specs.Options.{◌>>=◌}
-use Rattle.rvs_words.specs.Commands.{number_of, within_steps}
+use Rattle.rvs_words.specs.Commands.{number_of}
 use Rattle.rvs_words.specs.declared.command.Command.{Command}
 use Rattle.rvs_words.specs.declared.command.Command.TheVariants.{Unknown, Demo}
 use Rattle.rvs_words.specs.CommandLaws.{StepsAreRead, CountsAreRead}
@@ -25,24 +24,17 @@ number-read n h =
     ∙ digits_of-decimal n (omega arith)
 
 above-dash : (text : List ℕ) → 48 < get_or text 0 0 → is_positional text ≡ true
-above-dash [] h = absurd (omega arith)
-above-dash (byte ∷ text) h = grind (arith, nat_tests)
+above-dash text h = grind arith
 
 within : (n most : ℕ) → 1 ≤ n → n ≤ most → (nat_le 1 n && nat_le n most) ≡ true
 within n most low high = grind (arith, nat_tests)
 
 pub steps_are_read : StepsAreRead
-steps_are_read n low high = (
-  above-dash (decimal n) (first_decimal n (omega arith) (omega arith)),
-  ap (λ (o : Option ℕ). option_map Some (within_steps o)) (number-read n (omega arith))
-      ∙ ap (λ (t : Bool). option_map Some (cond t (Some n) None)) (within n 2000000 low high),
-)
+steps_are_read n low high = grind (arith, above-dash, first_decimal, number-read, within)
 
 -- a demonstration of this size, where there is one
 abbrev of_size : Option ℕ → Command
 of_size size = unwrap_or (size >>= (λ count. Some (Demo count))) Unknown
 
 pub counts_are_read : CountsAreRead
-counts_are_read program n low high =
-    ap (λ (o : Option ℕ). of_size (option_and_then size_of o)) (number-read n (omega arith))
-    ∙ ap (λ (t : Bool). of_size (cond t (Some n) None)) (within n 1000000 low high)
+counts_are_read program n low high = grind (arith, number-read, within)

@@ -1,35 +1,33 @@
 -- The words of each command ask for it.
-use Rattle.std.proofs.Common.{◌≡◌, ◌≤◌, ℕ, Bool, true, false, cond, List, [], ◌∷◌, ◌++◌, length}
-use Rattle.std.proofs.Common.{Option, Some, None, refl, ap, ◌∙◌, bytes_eq, codes, append-nil, arith}
-use Rattle.std.specs.Prelude.{◌&&◌, nat_le, map, option_map, option_and_then, unwrap_or}
+use Rattle.std.proofs.Common.{◌≡◌, ◌≤◌, ℕ, true, false, List, [], ◌∷◌, ◌++◌, length}
+use Rattle.std.proofs.Common.{Option, Some, refl, ap, ◌∙◌, bytes_eq, codes, append-nil, arith}
+use Rattle.std.specs.Prelude.{◌&&◌, nat_le, map, option_map, unwrap_or}
 use Rattle.std.specs.List.{list_all, list_any}
 use Rattle.std.proofs.lemmas.Bool.Decides.{nat_tests}
 use Rattle.std.proofs.lemmas.List.{length-map}
-use Rattle.rvs_words.specs.Words.{is_positional, pairs_of, is_among, options_in, values_of}
+use Rattle.rvs_words.specs.Words.{pairs_of, is_among, options_in, values_of}
 use Rattle.rvs_words.specs.Words.{are_known, only}
 use Rattle.rvs_words.specs.Words.{at_most_one}
 use Rattle.rvs_words.specs.FamilyWords.{families_of}
 use Rattle.rvs_abstract.specs.declared.families.Families.{Families}
 use Rattle.rvs_words.specs.PartWords.{parts_of}
 use Rattle.rvs_parts.specs.Parts.{PartValue}
-use Rattle.rvs_text.specs.Options.{◌>>=◌}
 use Rattle.rvs_words.specs.Commands.{Values, with_options, some_of, steps_of}
-use Rattle.rvs_words.specs.Commands.{validate_options, validate_of}
 use Rattle.rvs_words.specs.Commands.{normalize_options, normalize_of, generate_options, generate_of}
 use Rattle.rvs_words.specs.Commands.{reference_options, reference_of, run_options, run_of}
-use Rattle.rvs_words.specs.Commands.{run_groups_of, run_database_of, is_given}
+use Rattle.rvs_words.specs.Commands.{run_groups_of}
 use Rattle.rvs_words.specs.declared.words.Pair.{Pair}
 use Rattle.rvs_words.specs.declared.command.Command.{Command}
-use Rattle.rvs_words.specs.declared.command.Command.TheVariants.{Unknown, Compare, Validate}
+use Rattle.rvs_words.specs.declared.command.Command.TheVariants.{Unknown}
 use Rattle.rvs_words.specs.declared.command.Command.TheVariants.{Normalize, Generate, Reference}
-use Rattle.rvs_words.specs.declared.command.Command.TheVariants.{Run, Demo}
+use Rattle.rvs_words.specs.declared.command.Command.TheVariants.{Run}
 use Rattle.rvs_words.specs.CommandLaws.{Value, option, options, may_stand, AllMayStand, text_of}
 use Rattle.rvs_words.specs.CommandLaws.{listed, ComparesAreRead, ValidatesAreRead}
 use Rattle.rvs_words.specs.CommandLaws.{NormalizesAreRead, GeneratesAreRead, ReferencesAreRead}
 use Rattle.rvs_words.specs.CommandLaws.{RunsAreRead}
 use Rattle.rvs_words.specs.CommandLaws.{DemosAreRead}
 use Rattle.rvs_words.proofs.OptionPairs.{IsName, pair, pairs, and-left, and-right, option_read}
-use Rattle.rvs_words.proofs.OptionPairs.{options_read, option_alone, options_alone, values_same}
+use Rattle.rvs_words.proofs.OptionPairs.{options_read, options_alone, values_same}
 use Rattle.rvs_words.proofs.OptionPairs.{values_other, known_pairs}
 
 pub isa-name : IsName (codes "--isa")
@@ -68,10 +66,7 @@ device-name = record { alone = refl; joined = λ byte text. refl; same = refl }
 pub options-in : (names words : List (List ℕ)) (ps : List Pair)
     → pairs_of words ≡ Some ps → are_known names ps ≡ true
     → options_in (is_among names) words ≡ Some ps
-options-in names words ps e k =
-    ap (λ (o : Option (List Pair)). option_and_then
-    (λ (ps : List Pair). cond (are_known names ps) (Some ps) None) o) e
-    ∙ ap (λ (b : Bool). cond b (Some ps) None) k
+options-in names words ps e k = grind arith
 
 -- the values of each option of pairs
 abbrev pub of-values : List Pair → Values
@@ -82,9 +77,7 @@ pub asked : (names : List (List ℕ)) (f : Values → Option Command) (words : L
     (ps : List Pair) (command : Command)
     → options_in (is_among names) words ≡ Some ps → f (of-values ps) ≡ Some command
     → with_options names f words ≡ Some command
-asked names f words ps command e h =
-    ap (λ (o : Option (List Pair)). o >>= (λ (ps : List Pair). f (of-values ps))) e
-    ∙ h
+asked names f words ps command e h = grind arith
 
 -- a command of the pairs, each of whose names is known
 pub of-pairs : (names : List (List ℕ)) (f : Values → Option Command) (words : List (List ℕ))
@@ -92,15 +85,10 @@ pub of-pairs : (names : List (List ℕ)) (f : Values → Option Command) (words 
     → pairs_of words ≡ Some ps → are_known names ps ≡ true
     → f (of-values ps) ≡ Some command
     → unwrap_or (with_options names f words) Unknown ≡ command
-of-pairs names f words ps command e k h =
-    ap (λ (o : Option Command). unwrap_or o Unknown)
-    (asked names f words ps command (options-in names words ps e k) h)
+of-pairs names f words ps command e k h = grind (arith, asked, options-in)
 
 pub validates_are_read : ValidatesAreRead
-validates_are_read program isa m =
-    of-pairs validate_options validate_of (option (codes "--isa") isa)
-    (pair (codes "--isa") isa ∷ []) (Validate (record { isa = isa.text }))
-    (option_alone (codes "--isa") isa-name isa (and-left (may_stand isa) true m)) refl refl
+validates_are_read program isa m = grind (arith, nat_tests)
 
 enough : (most : ℕ) (values : List Value) → 1 ≤ length values → length values ≤ most
     → (nat_le 1 (length (map text_of values)) && nat_le (length (map text_of values)) most) ≡ true
@@ -108,8 +96,7 @@ enough most values low high = simp length-map (grind (arith, nat_tests))
 
 pub some : (most : ℕ) (values : List Value) → 1 ≤ length values → length values ≤ most
     → some_of most (map text_of values) ≡ Some (map text_of values)
-some most values low high =
-    ap (λ (b : Bool). cond b (Some (map text_of values)) None) (enough most values low high)
+some most values low high = simp enough
 
 pub normalize-of : (values : Values) (isa : List ℕ) (groups : List (List ℕ)) (read : Families)
     → only (values (codes "--isa")) ≡ Some isa
@@ -117,9 +104,7 @@ pub normalize-of : (values : Values) (isa : List ℕ) (groups : List (List ℕ))
     → families_of (values (codes "--families")) ≡ Some read
     → normalize_of values
     ≡ Some (Normalize (record { isa = isa; groups = groups; families = read }))
-normalize-of values isa groups read a b c =
-    λ k. a k >>= (λ isa. b k >>= (λ groups. c k >>= (λ families.
-    Some (Normalize (record { isa = isa; groups = groups; families = families })))))
+normalize-of values isa groups read a b c = grind arith
 
 -- all values stand where the first does and the others do
 pub first-stands : (value : Value) (values : List Value) → AllMayStand (value ∷ values)
@@ -134,15 +119,10 @@ others-stand value values m = and-right (may_stand value) (list_all may_stand va
 pub own-values : (name : List ℕ) → IsName name → (values : List Value) (more : List Pair)
     → values_of name more ≡ []
     → values_of name (pairs name values ++ more) ≡ map text_of values
-own-values name is values more none =
-    values_same name is values more ∙ ap (λ vs. map text_of values ++ vs) none
-    ∙ append-nil (map text_of values)
+own-values name is values more none = grind (arith, values_same, append-nil)
 
 pub compares_are_read : ComparesAreRead
-compares_are_read program left right a b =
-    let both = Some (Compare (record { left = left; right = right })) in
-    ap (λ (t : Bool). unwrap_or (cond (t && is_positional right) both None) Unknown) a
-    ∙ ap (λ (t : Bool). unwrap_or (cond t both None) Unknown) b
+compares_are_read program left right a b = grind arith
 
 -- the last option of a command that names group files
 abbrev pub last-pairs : Option Value → List Pair
@@ -204,15 +184,7 @@ pub generate-of : (values : Values) (isa work : List ℕ) (groups : List (List �
       part = part;
       families = read;
     }))
-generate-of values isa work groups part read a b c d e =
-    λ k. a k >>= (λ isa. b k >>= (λ groups. c k >>= (λ work. d k >>= (λ part.
-    e k >>= (λ families. Some (Generate (record {
-      isa = isa;
-      groups = groups;
-      work = work;
-      part = part;
-      families = families;
-    })))))))
+generate-of values isa work groups part read a b c d e = grind arith
 
 -- a part and families, each of which needn't stand
 abbrev part-pairs : Option Value → Option Value → List Pair
@@ -224,36 +196,26 @@ part-words part families = options (codes "--part") (listed part) ++ last-words 
 part-read : (part families : Option Value) → AllMayStand (listed part)
     → AllMayStand (listed families)
     → pairs_of (part-words part families) ≡ Some (part-pairs part families)
-part-read part families p f =
-    options_read (codes "--part") part-name (listed part) (last-words families)
-    (last-pairs families) p (last-read families f)
+part-read part families p f = grind (arith, options_read, codes, part-name, last-read)
 
 not-part : (name : List ℕ) → bytes_eq (codes "--part") name ≡ false
     → bytes_eq (codes "--families") name ≡ false
     → (part families : Option Value) → values_of name (part-pairs part families) ≡ []
-not-part name a b part families =
-    values_other name (codes "--part") a (listed part) (last-pairs families)
-    ∙ not-last name b families
+not-part name a b part families = simp (values_other, codes, not-last)
 
 part-known : (names : List (List ℕ))
     → list_any (λ (known : List ℕ). bytes_eq (codes "--part") known) names ≡ true
     → list_any (λ (known : List ℕ). bytes_eq (codes "--families") known) names ≡ true
     → (part families : Option Value) → are_known names (part-pairs part families) ≡ true
-part-known names a b part families =
-    known_pairs names (codes "--part") a (listed part) (last-pairs families)
-    ∙ last-known names b families
+part-known names a b part families = simp (known_pairs, codes, last-known)
 
 part-value : (part families : Option Value)
     → values_of (codes "--part") (part-pairs part families) ≡ map text_of (listed part)
-part-value part families =
-    own-values (codes "--part") part-name (listed part) (last-pairs families)
-    (not-last (codes "--part") refl families)
+part-value part families = simp (own-values, codes, part-name, not-last)
 
 part-families : (part families : Option Value)
     → values_of (codes "--families") (part-pairs part families) ≡ map text_of (listed families)
-part-families part families =
-    values_other (codes "--families") (codes "--part") refl (listed part) (last-pairs families)
-    ∙ last-value families
+part-families part families = simp (values_other, codes, last-value)
 
 pub generates_are_read : GeneratesAreRead
 generates_are_read program isa work groups part families kept read m p f few fit which =
@@ -304,28 +266,13 @@ pub run-of : (program : List ℕ) (values : Values) (isa device work : List ℕ)
       part = part;
       families = read;
     }))
-run-of program values isa device work groups part read a b c d e f =
-    λ k. a k >>= (λ isa. b k >>= (λ groups. c k >>= (λ device. d k >>= (λ work.
-    e k >>= (λ part. f k >>= (λ families. Some (Run (record {
-      program = program;
-      isa = isa;
-      groups = groups;
-      device = device;
-      work = work;
-      part = part;
-      families = families;
-    }))))))))
+run-of program values isa device work groups part read a b c d e f = grind arith
 
 -- without a database, a run is over group files
 over-groups : (program : List ℕ) (values : Values) (command : Command)
     → values (codes "--database") ≡ [] → run_groups_of program values ≡ Some command
     → run_of program values ≡ Some command
-over-groups program values command none asks =
-    ap (λ databases. cond (is_given databases)
-    (cond (is_given (values (codes "--cgf"))) None (cond (is_given (values (codes "--families")))
-    None (run_database_of program values)))
-    (run_groups_of program values)) none
-    ∙ asks
+over-groups program values command none asks = grind (arith, codes)
 
 pub runs_are_read : RunsAreRead
 runs_are_read program isa device work groups part families kept read m p f few fit which =
@@ -383,20 +330,11 @@ pub reference-of : (values : Values) (isa test signature : List ℕ) (log : Opti
       log = log;
       steps = count;
     }))
-reference-of values isa test signature log count a b c d e =
-    λ k. a k >>= (λ isa. b k >>= (λ test. c k >>= (λ signature. d k >>= (λ log.
-    e k >>= (λ steps. Some (Reference (record {
-      isa = isa;
-      test = test;
-      signature = signature;
-      log = log;
-      steps = steps;
-    })))))))
+reference-of values isa test signature log count a b c d e = grind arith
 
 one-listed : (log : Option Value)
     → at_most_one (map text_of (listed log)) ≡ Some (option_map text_of log)
-one-listed None = refl
-one-listed (Some log) = refl
+one-listed log = grind arith
 
 pub references_are_read : ReferencesAreRead
 references_are_read program isa test signature log steps count m l s fit =
@@ -438,5 +376,4 @@ references_are_read program isa test signature log steps count m l s fit =
     ∙ own-values (codes "--steps") steps-name (listed steps) [] refl) ∙ fit))
 
 pub demos_are_read : DemosAreRead
-demos_are_read program text count e =
-    ap (λ (o : Option ℕ). unwrap_or (o >>= (λ count. Some (Demo count))) Unknown) e
+demos_are_read program text count e = grind arith

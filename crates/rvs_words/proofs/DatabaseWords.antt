@@ -1,21 +1,21 @@
 -- The words of `select`, and of `run` by where its tests come from.
+use Rattle.std.proofs.lemmas.Bool.Decides.{nat_tests}
 use Rattle.std.proofs.Common.{◌≡◌, ℕ, Bool, true, false, cond, List, [], ◌∷◌, ◌++◌, Option, Some}
-use Rattle.std.proofs.Common.{None, refl, ap, ◌∙◌, codes, bytes_eq}
+use Rattle.std.proofs.Common.{None, refl, ap, ◌∙◌, codes, bytes_eq, arith, rules}
 use Rattle.std.specs.Prelude.{option_and_then, unwrap_or}
 use Rattle.rvs_words.specs.Words.{pairs_of, are_known, only}
 use Rattle.rvs_text.specs.Options.{◌>>=◌}
-use Rattle.rvs_words.specs.Commands.{Values, with_options, some_of, select_options, select_of}
+use Rattle.rvs_words.specs.Commands.{Values, with_options}
 use Rattle.rvs_words.specs.Commands.{run_options, run_of, run_groups_of, run_database_of, is_given}
 use Rattle.rvs_words.specs.declared.words.Pair.{Pair}
 use Rattle.rvs_words.specs.declared.command.Command.{Command}
-use Rattle.rvs_words.specs.declared.command.Command.TheVariants.{Unknown, Run, RunDatabase}
+use Rattle.rvs_words.specs.declared.command.Command.TheVariants.{Unknown, RunDatabase}
 use Rattle.rvs_words.specs.CommandLaws.{option, options, listed, SelectsAreRead}
 use Rattle.rvs_words.specs.CommandLaws.{DatabasesHaveNoFamilies}
-use Rattle.rvs_words.specs.FamilyWords.{families_of}
 use Rattle.rvs_words.specs.PartWords.{parts_of}
 use Rattle.rvs_parts.specs.Parts.{PartValue}
 use Rattle.rvs_words.specs.CommandLaws.{RunsOverDatabasesAreRead, RunsHaveOneSource}
-use Rattle.rvs_words.proofs.OptionPairs.{IsName, pair, pairs, option_read, option_alone}
+use Rattle.rvs_words.proofs.OptionPairs.{IsName, pair, pairs, option_read}
 use Rattle.rvs_words.proofs.OptionPairs.{options_alone, values_other, known_pairs}
 use Rattle.rvs_words.proofs.CommandWords.{isa-name, device-name, work-name, of-values, of-pairs}
 use Rattle.rvs_words.proofs.CommandWords.{first-stands, others-stand, part-name, own-values}
@@ -24,15 +24,7 @@ database-name : IsName (codes "--database")
 database-name = record { alone = refl; joined = λ byte text. refl; same = refl }
 
 pub selects_are_read : SelectsAreRead
-selects_are_read program isa database m =
-    let behind = pair (codes "--database") database ∷ [] in
-    let words = option (codes "--database") database in
-    of-pairs select_options select_of (option (codes "--isa") isa ++ words)
-    (pair (codes "--isa") isa ∷ behind) _
-    (option_read (codes "--isa") isa-name isa words behind (first-stands isa (database ∷ []) m)
-    (option_alone (codes "--database") database-name database
-    (first-stands database [] (others-stand isa (database ∷ []) m))))
-    refl refl
+selects_are_read program isa database m = grind (arith, nat_tests)
 
 pub run-database-of : (program : List ℕ) (values : Values) (isa database device work : List ℕ)
     (part : Option PartValue)
@@ -49,16 +41,7 @@ pub run-database-of : (program : List ℕ) (values : Values) (isa database devic
       work = work;
       part = part;
     }))
-run-database-of program values isa database device work part a b c d e =
-    λ k. a k >>= (λ isa. b k >>= (λ database. c k >>= (λ device. d k >>= (λ work.
-    e k >>= (λ part. Some (RunDatabase (record {
-      program = program;
-      isa = isa;
-      database = database;
-      device = device;
-      work = work;
-      part = part;
-    })))))))
+run-database-of program values isa database device work part a b c d e = grind arith
 
 -- what a run asks for, by whether it is given group files, a database and families
 abbrev pub by-source : List ℕ → Values → Bool → Bool → Bool → Option Command
@@ -72,9 +55,7 @@ by-database : (program : List ℕ) (values : Values) (command : Command)
     → run_database_of program values ≡ Some command
     → (database : List ℕ)
     → values (codes "--database") ≡ database ∷ [] → run_of program values ≡ Some command
-by-database program values command none plain asks database given =
-    (λ k. by-source program values (is_given (none k)) (is_given (given k)) (is_given (plain k)))
-    ∙ asks
+by-database program values command none plain asks database given = grind arith
 
 pub runs_over_databases_are_read : RunsOverDatabasesAreRead
 runs_over_databases_are_read program isa database device work part kept m p fit =
@@ -118,62 +99,36 @@ abbrev no-command : Option Command
 no-command = None
 
 nothing-follows : {A : Type 0} (o : Option A) → (o >>= (λ a. no-command)) ≡ no-command
-nothing-follows None = refl
-nothing-follows (Some a) = refl
+nothing-follows = grind arith
 
 none-given : (values : List (List ℕ)) → is_given values ≡ false → values ≡ []
-none-given [] e = refl
-none-given (value ∷ values) e = absurd cc
+none-given values e = grind arith
 
 -- a run over group files lacks them
 no-groups : (program : List ℕ) (values : Values) → is_given (values (codes "--cgf")) ≡ false
     → run_groups_of program values ≡ None
-no-groups program values none =
-    ap (λ (given : List (List ℕ)). only (values (codes "--isa")) >>= (λ isa. some_of 64 given
-    >>= (λ groups. only (values (codes "--device")) >>= (λ device. only (values (codes "--work"))
-    >>= (λ work. parts_of (values (codes "--part")) >>= (λ part.
-    families_of (values (codes "--families")) >>= (λ families. Some (Run (record {
-      program = program;
-      isa = isa;
-      groups = groups;
-      device = device;
-      work = work;
-      part = part;
-      families = families;
-    }))))))))) (none-given (values (codes "--cgf")) none)
-    ∙ nothing-follows (only (values (codes "--isa")))
+no-groups program values none = grind (arith, codes, none-given, nothing-follows)
 
 both-or-none : (program : List ℕ) (values : Values) (groups databases : Bool)
     → is_given (values (codes "--cgf")) ≡ groups
     → is_given (values (codes "--database")) ≡ databases → groups ≡ databases
     → run_of program values ≡ None
-both-or-none program values true true g d same =
-    λ k. by-source program values (g k) (d k) (is_given (values (codes "--families")))
-both-or-none program values false false g d same =
-    (λ k. by-source program values (is_given (values (codes "--cgf"))) (d k)
-    (is_given (values (codes "--families"))))
-    ∙ no-groups program values g
-both-or-none program values true false g d same = absurd cc
-both-or-none program values false true g d same = absurd cc
+both-or-none program values groups databases g d same = grind arith
 
 none-of-database : (groups : Bool) (asked : Option Command)
     → cond groups no-command (cond true None asked) ≡ None
-none-of-database true asked = refl
-none-of-database false asked = refl
+none-of-database groups asked = grind arith
 
 families-of-database : (program : List ℕ) (values : Values)
     → is_given (values (codes "--database")) ≡ true
     → is_given (values (codes "--families")) ≡ true
     → run_of program values ≡ None
-families-of-database program values d f =
-    (λ k. by-source program values (is_given (values (codes "--cgf"))) (d k) (f k))
-    ∙ none-of-database (is_given (values (codes "--cgf"))) (run_database_of program values)
+families-of-database program values d f = grind (arith, codes, none-of-database)
 
 if-known : (known : Bool) (f : Values → Option Command) (pairs : List Pair)
     → f (of-values pairs) ≡ None
     → unwrap_or (cond known (Some pairs) None >>= (λ pairs. f (of-values pairs))) Unknown ≡ Unknown
-if-known true f pairs none = ap (λ o. unwrap_or o Unknown) none
-if-known false f pairs none = refl
+if-known known f pairs none = grind arith
 
 -- words that are these pairs ask a run for nothing, if their values don't
 nothing-asked : (program : List ℕ) (words : List (List ℕ)) (pairs : List Pair)
@@ -187,8 +142,7 @@ nothing-asked program words pairs read none =
 
 pub runs_have_one_source : RunsHaveOneSource
 runs_have_one_source program words pairs read same =
-    nothing-asked program words pairs read
-    (both-or-none program (of-values pairs) _ _ refl refl same)
+    search (rules, nothing-asked, both-or-none, of-values)
 
 pub databases_have_no_families : DatabasesHaveNoFamilies
 databases_have_no_families program words pairs read d f =

@@ -1,5 +1,5 @@
 -- The value of an option that says which families are read.
-use Rattle.std.proofs.Common.{◌≡◌, ℕ, List, [], ◌∷◌, Option, Some, None, refl}
+use Rattle.std.proofs.Common.{◌≡◌, ℕ, List, Option, Some, None, arith}
 use Rattle.std.specs.Prelude.{option_and_then}
 use Rattle.rvs_abstract.specs.declared.families.Families.{Families}
 use Rattle.rvs_abstract.specs.declared.families.Families.TheVariants.{Stated}
@@ -13,6 +13,4 @@ families_given (Some text) = families_named text
 
 pub families_are_at_most_one : (values : List (List ℕ))
     → families_of values ≡ option_and_then families_given (at_most_one values)
-families_are_at_most_one [] = refl
-families_are_at_most_one (value ∷ []) = refl
-families_are_at_most_one (value ∷ other ∷ values) = refl
+families_are_at_most_one values = grind arith

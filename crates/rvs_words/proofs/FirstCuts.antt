@@ -5,12 +5,10 @@ use Rattle.std.specs.Prelude.{not, ◌||◌}
 use Rattle.std.specs.List.{list_any, position_or_len}
 
 pub not-left : (a b : Bool) → (a || b) ≡ false → a ≡ false
-not-left true b e = absurd cc
-not-left false b e = refl
+not-left a b e = grind arith
 
 pub not-right : (a b : Bool) → (a || b) ≡ false → b ≡ false
-not-right true b e = absurd cc
-not-right false b e = e
+not-right a b e = grind arith
 
 module _ (test : ℕ → Bool) where
   pub first-at : (front : List ℕ) (byte : ℕ) (back : List ℕ) → list_any test front ≡ false

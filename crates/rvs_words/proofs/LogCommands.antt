@@ -1,11 +1,10 @@
 -- The words of the commands that read execution logs ask for them.
 use Rattle.std.proofs.Common.{◌≡◌, ℕ, Bool, true, false, cond, List, [], ◌∷◌, ◌++◌, Option, Some}
-use Rattle.std.proofs.Common.{refl, ap, ◌∙◌, bytes_eq, codes}
-use Rattle.std.specs.Prelude.{◌&&◌, map}
+use Rattle.std.proofs.Common.{refl, ap, ◌∙◌, bytes_eq, codes, arith}
+use Rattle.std.specs.Prelude.{map}
 use Rattle.std.specs.List.{list_any}
 use Rattle.rvs_abstract.specs.declared.families.Families.{Families}
 use Rattle.rvs_base.specs.declared.asked.Window.{Window}
-use Rattle.rvs_text.specs.Options.{◌>>=◌}
 use Rattle.rvs_words.specs.Words.{pairs_of, values_of, are_known, only}
 use Rattle.rvs_words.specs.Windows.{windows_of}
 use Rattle.rvs_words.specs.FamilyWords.{families_of}
@@ -37,62 +36,45 @@ abbrev told-words : Option Value → Bool → List (List ℕ)
 told-words families progress = options (codes "--families") (listed families) ++ flagged progress
 
 flag-read : (progress : Bool) → pairs_of (flagged progress) ≡ Some (flag-pairs progress)
-flag-read true = refl
-flag-read false = refl
+flag-read progress = grind arith
 
 told-read : (families : Option Value) (progress : Bool) → AllMayStand (listed families)
     → pairs_of (told-words families progress) ≡ Some (told-pairs families progress)
-told-read families progress m =
-    options_read (codes "--families") families-name (listed families) (flagged progress)
-    (flag-pairs progress) m (flag-read progress)
+told-read families progress m = grind (arith, options_read, codes, families-name, flag-read)
 
 not-flag : (name : List ℕ) → bytes_eq (codes "--progress") name ≡ false → (progress : Bool)
     → values_of name (flag-pairs progress) ≡ []
-not-flag name e true =
-    ap (λ (b : Bool). map (λ (p : Pair). p.value)
-    (cond b (record { name = codes "--progress"; value = [] } ∷ []) [])) e
-not-flag name e false = refl
+not-flag name e progress = grind arith
 
 not-told : (name : List ℕ) → bytes_eq (codes "--families") name ≡ false
     → bytes_eq (codes "--progress") name ≡ false
     → (families : Option Value) (progress : Bool)
     → values_of name (told-pairs families progress) ≡ []
-not-told name a b families progress =
-    values_other name (codes "--families") a (listed families) (flag-pairs progress)
-    ∙ not-flag name b progress
+not-told name a b families progress = simp (values_other, codes, not-flag)
 
 flag-known : (names : List (List ℕ))
     → list_any (λ (known : List ℕ). bytes_eq (codes "--progress") known) names ≡ true
     → (progress : Bool) → are_known names (flag-pairs progress) ≡ true
-flag-known names e true = ap (λ (b : Bool). b && true) e
-flag-known names e false = refl
+flag-known names e progress = grind arith
 
 told-known : (names : List (List ℕ))
     → list_any (λ (known : List ℕ). bytes_eq (codes "--families") known) names ≡ true
     → list_any (λ (known : List ℕ). bytes_eq (codes "--progress") known) names ≡ true
     → (families : Option Value) (progress : Bool)
     → are_known names (told-pairs families progress) ≡ true
-told-known names a b families progress =
-    known_pairs names (codes "--families") a (listed families) (flag-pairs progress)
-    ∙ flag-known names b progress
+told-known names a b families progress = simp (known_pairs, codes, flag-known)
 
 told-families : (families : Option Value) (progress : Bool)
     → values_of (codes "--families") (told-pairs families progress) ≡ map text_of (listed families)
-told-families families progress =
-    own-values (codes "--families") families-name (listed families) (flag-pairs progress)
-    (not-flag (codes "--families") refl progress)
+told-families families progress = simp (own-values, codes, families-name, not-flag)
 
 flag-own : (progress : Bool)
     → flag_of (values_of (codes "--progress") (flag-pairs progress)) ≡ Some progress
-flag-own true = refl
-flag-own false = refl
+flag-own progress = grind arith
 
 told-progress : (families : Option Value) (progress : Bool)
     → flag_of (values_of (codes "--progress") (told-pairs families progress)) ≡ Some progress
-told-progress families progress =
-    ap flag_of (values_other (codes "--progress") (codes "--families") refl (listed families)
-    (flag-pairs progress))
-    ∙ flag-own progress
+told-progress families progress = simp (values_other, codes, flag-own)
 
 pub coverage-of : (values : Values) (isa : List ℕ) (groups logs : List (List ℕ))
     (kept : List Window) (read : Families) (progress : Bool)
@@ -110,16 +92,7 @@ pub coverage-of : (values : Values) (isa : List ℕ) (groups logs : List (List �
       families = read;
       progress = progress;
     }))
-coverage-of values isa groups logs kept read progress a b c d e f =
-    λ k. a k >>= (λ isa. b k >>= (λ groups. c k >>= (λ logs. d k >>= (λ windows.
-    e k >>= (λ families. f k >>= (λ progress. Some (Coverage (record {
-      isa = isa;
-      groups = groups;
-      logs = logs;
-      windows = windows;
-      families = families;
-      progress = progress;
-    }))))))))
+coverage-of values isa groups logs kept read progress a b c d e f = grind arith
 
 pub coverages_are_read : CoveragesAreRead
 coverages_are_read program isa groups logs windows families kept read progress m l w f few many fit
@@ -191,23 +164,7 @@ pub propagate-of : (values : Values) (isa : List ℕ) (groups logs : List (List 
       families = read;
       progress = progress;
     }))
-propagate-of values isa groups logs signed read progress a b c d e f =
-    (λ k. a k >>= (λ isa. b k >>= (λ groups. c k >>= (λ logs.
-    signed_logs logs (values (codes "--signature")) >>= (λ signed.
-    e k >>= (λ families. f k >>= (λ progress. Some (Propagate (record {
-      isa = isa;
-      groups = groups;
-      logs = signed;
-      families = families;
-      progress = progress;
-    })))))))))
-    ∙ (λ k. d k >>= (λ signed. Some (Propagate (record {
-      isa = isa;
-      groups = groups;
-      logs = signed;
-      families = read;
-      progress = progress;
-    }))))
+propagate-of values isa groups logs signed read progress a b c d e f = grind (arith, codes)
 
 pub propagates_are_read : PropagatesAreRead
 propagates_are_read program isa groups logs signatures families signed read progress m l s f few

@@ -2,7 +2,6 @@
 use Rattle.std.proofs.Common.{◌≡◌, ℕ, ◌+◌, Bool, true, false, cond, List, [], ◌∷◌, ◌++◌}
 use Rattle.std.proofs.Common.{take, refl, ap, ◌∙◌, arith, codes, Option, Some}
 use Rattle.std.proofs.Common.{drop_of_length-le}
-use Rattle.std.specs.Prelude.{◌||◌}
 use Rattle.std.proofs.lemmas.Slice.Eq.{bytes_eq-Decides}
 use Rattle.std.specs.List.{list_any, position_or_len, before_first}
 use Rattle.rvs_words.specs.Words.{is_equals_sign, is_flag, pair_of}
@@ -14,21 +13,10 @@ use Rattle.rvs_words.proofs.OptionPairs.{IsName, option_read, one-word}
 -- a word with `=` isn't the option that has no value
 has-equals : (name more : List ℕ) → list_any is_equals_sign (name ++ 61 ∷ more) ≡ true
 has-equals [] more = refl
-has-equals (byte ∷ name) more = turn (is_equals_sign byte) (has-equals name more)
-  where
-    turn : (b : Bool) → list_any is_equals_sign (name ++ 61 ∷ more) ≡ true
-        → (b || list_any is_equals_sign (name ++ 61 ∷ more)) ≡ true
-    turn true e = refl
-    turn false e = e
+has-equals (byte ∷ name) more = grind (arith, (has-equals name more))
 
 not-flag : (word : List ℕ) → list_any is_equals_sign word ≡ true → is_flag word ≡ false
-not-flag word has = turn (is_flag word) refl
-  where
-    turn : (b : Bool) → is_flag word ≡ b → b ≡ false
-    turn false e = refl
-    turn true e = let same = (bytes_eq-Decides word (codes "--progress")).0 e in
-        let none : list_any is_equals_sign word ≡ false = ap (list_any is_equals_sign) same in
-        absurd cc
+not-flag word has = grind (arith, bytes_eq-Decides, codes)
 
 no-flag : (word : List ℕ) → Option Pair → Bool → Option Pair
 no-flag word other b = cond b (Some (record { name = word; value = [] })) other

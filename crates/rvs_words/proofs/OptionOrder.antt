@@ -1,9 +1,9 @@
 -- Options in any order ask for the same.
-use Rattle.std.proofs.Common.{◌≡◌, ℕ, Bool, true, false, cond, List, [], ◌∷◌, ◌++◌, Option, Some}
+use Rattle.std.proofs.Common.{◌≡◌, ℕ, Bool, true, cond, List, [], ◌∷◌, ◌++◌, Option, Some}
 use Rattle.std.proofs.Common.{None}
-use Rattle.std.proofs.Common.{refl, sym, ap, subst, ◌∙◌, bytes_eq}
+use Rattle.std.proofs.Common.{bytes_eq, arith, rules}
 use Rattle.std.proofs.lemmas.Slice.Eq.{bytes_eq-Decides}
-use Rattle.std.specs.Prelude.{◌&&◌, ◌||◌, map, filter, option_and_then, unwrap_or}
+use Rattle.std.specs.Prelude.{◌&&◌, ◌||◌, filter, option_and_then, unwrap_or}
 use Rattle.std.specs.List.{list_all, list_any}
 use Rattle.rvs_words.specs.Words.{pairs_of, values_of, are_known}
 use Rattle.rvs_text.specs.Options.{◌>>=◌}
@@ -23,17 +23,13 @@ use Rattle.rvs_words.proofs.CommandWords.{of-values}
 two-kept : (x y : Bool) (a b : Pair) (rest : List Pair) → (x ≡ true → y ≡ true → ⊥)
     → cond x (a ∷ cond y (b ∷ rest) rest) (cond y (b ∷ rest) rest)
     ≡ cond y (b ∷ cond x (a ∷ rest) rest) (cond x (a ∷ rest) rest)
-two-kept true true a b rest apart = absurd (apart refl refl)
-two-kept true false a b rest apart = refl
-two-kept false true a b rest apart = refl
-two-kept false false a b rest apart = refl
+two-kept x y a b rest apart = grind arith
 
 kept-swapped : (test : Pair → Bool) (front behind : List Pair) (a b : Pair)
     → (test a ≡ true → test b ≡ true → ⊥)
     → filter test (front ++ a ∷ b ∷ behind) ≡ filter test (front ++ b ∷ a ∷ behind)
 kept-swapped test [] behind a b apart = two-kept (test a) (test b) a b (filter test behind) apart
-kept-swapped test (p ∷ front) behind a b apart =
-    ap (λ ps. cond (test p) (p ∷ ps) ps) (kept-swapped test front behind a b apart)
+kept-swapped test (p ∷ front) behind a b apart = simp (kept-swapped test front behind a b apart)
 
 -- each option has the same values
 abbrev SameValues : List Pair → List Pair → Type 0
@@ -41,23 +37,15 @@ SameValues ps others = (name : List ℕ) → values_of name ps ≡ values_of nam
 
 values-swapped : (front behind : List Pair) (a b : Pair) → (a.name ≡ b.name → ⊥)
     → SameValues (front ++ a ∷ b ∷ behind) (front ++ b ∷ a ∷ behind)
-values-swapped front behind a b apart name =
-    ap (map (λ (p : Pair). p.value))
-    (kept-swapped (λ (p : Pair). bytes_eq p.name name) front behind a b
-    (λ one two. apart
-    ((bytes_eq-Decides a.name name).0 one ∙ sym ((bytes_eq-Decides b.name name).0 two))))
+values-swapped front behind a b apart name = grind (arith, kept-swapped, bytes_eq, bytes_eq-Decides)
 
 both-known : (x y rest : Bool) → (x && (y && rest)) ≡ (y && (x && rest))
-both-known true true rest = refl
-both-known true false rest = refl
-both-known false true rest = refl
-both-known false false rest = refl
+both-known x y rest = grind arith
 
 all-swapped : (test : Pair → Bool) (front behind : List Pair) (a b : Pair)
     → list_all test (front ++ a ∷ b ∷ behind) ≡ list_all test (front ++ b ∷ a ∷ behind)
 all-swapped test [] behind a b = both-known (test a) (test b) (list_all test behind)
-all-swapped test (p ∷ front) behind a b =
-    ap (λ (rest : Bool). test p && rest) (all-swapped test front behind a b)
+all-swapped test (p ∷ front) behind a b = simp (all-swapped test front behind a b)
 
 -- what options of these names ask for, by the pairs that they are
 abbrev in-pairs : List (List ℕ) → (Values → Option Command) → Option (List Pair) → Option Command
@@ -72,15 +60,12 @@ still : (known : Bool) (f : Values → Option Command) (ps others : List Pair)
     → of-values ps ≡ of-values others
     → (cond known (Some ps) None >>= (λ (ps : List Pair). f (of-values ps)))
     ≡ (cond known (Some others) None >>= (λ (ps : List Pair). f (of-values ps)))
-still true f ps others same = ap f same
-still false f ps others same = refl
+still known f ps others same = grind arith
 
 known-same : (names : List (List ℕ)) (f : Values → Option Command) (ps others : List Pair)
     → are_known names ps ≡ are_known names others → SameValues ps others
     → asked-by names f ps ≡ asked-by names f others
-known-same names f ps others known same =
-    ap (λ (b : Bool). cond b (Some ps) None >>= (λ (ps : List Pair). f (of-values ps))) known
-    ∙ still (are_known names others) f ps others (λ k name. same name k)
+known-same names f ps others known same = grind (arith, of-values, still)
 
 -- a command depends on the values alone
 of-same : (names : List (List ℕ)) (f : Values → Option Command) (words others : List (List ℕ))
@@ -89,10 +74,7 @@ of-same : (names : List (List ℕ)) (f : Values → Option Command) (words other
     → SameValues ps qs
     → unwrap_or (with_options names f words) Unknown ≡ unwrap_or (with_options names f others)
     Unknown
-of-same names f words others ps qs e e2 known same =
-    ap (λ (o : Option (List Pair)). unwrap_or (in-pairs names f o) Unknown) e
-    ∙ ap (λ (o : Option Command). unwrap_or o Unknown) (known-same names f ps qs known same)
-    ∙ sym (ap (λ (o : Option (List Pair)). unwrap_or (in-pairs names f o) Unknown) e2)
+of-same names f words others ps qs e e2 known same = grind (arith, known-same)
 
 -- what holds of each of some names holds of a name among them
 abbrev HoldsOfAll : (List ℕ → Type 0) → List (List ℕ) → Type 0
@@ -103,15 +85,12 @@ one-name : (P : List ℕ → Type 0) (name known : List ℕ) (same : Bool) (name
     → bytes_eq name known ≡ same → P known
     → (list_any (λ (k : List ℕ). bytes_eq name k) names ≡ true → P name)
     → (same || list_any (λ (k : List ℕ). bytes_eq name k) names) ≡ true → P name
-one-name P name known true names e here later is =
-    subst P (sym ((bytes_eq-Decides name known).0 e)) here
-one-name P name known false names e here later is = later is
+one-name P name known same names e here later is = search rules
 
 among : (P : List ℕ → Type 0) (name : List ℕ) (names : List (List ℕ)) → HoldsOfAll P names
     → list_any (λ (k : List ℕ). bytes_eq name k) names ≡ true → P name
 among P name [] all is = absurd cc
-among P name (known ∷ names) all is =
-    one-name P name known (bytes_eq name known) names refl all.0 (among P name names all.1) is
+among P name (known ∷ names) all is = search (rules, one-name, bytes_eq, (among P name names all.1))
 
 pub options_change_places : OptionsChangePlaces
 options_change_places program name words others front behind a b is apart e e2 =

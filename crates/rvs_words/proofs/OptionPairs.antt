@@ -1,7 +1,8 @@
 -- The pairs that options with their values are.
 use Rattle.std.proofs.Common.{◌≡◌, ℕ, Bool, true, false, cond, List, [], ◌∷◌, ◌++◌, length, Option}
 use Rattle.std.proofs.Common.{Some, None, refl, sym, ap, ◌∙◌, bytes_eq, append_assoc, append-nil}
-use Rattle.std.specs.Prelude.{◌&&◌, nat_le, map, filter, option_map}
+use Rattle.std.proofs.Common.{arith}
+use Rattle.std.specs.Prelude.{◌&&◌, nat_le, map, filter}
 use Rattle.std.specs.List.{list_any, list_all}
 use Rattle.rvs_words.specs.Words.{is_positional, pair_in, with_pair, with_two_words, pairs_of}
 use Rattle.rvs_words.specs.Words.{values_of, are_known}
@@ -29,31 +30,19 @@ first-word word value words (Some pair) = with_pair pair (pairs_of (value ∷ wo
 pub one-word : (word : List ℕ) (first : Pair) (words : List (List ℕ)) (more : List Pair)
     → pair_in word ≡ Some first
     → pairs_of words ≡ Some more → pairs_of (word ∷ words) ≡ Some (first ∷ more)
-one-word word first [] more p e =
-    ap (λ (o : Option Pair). option_map (λ (q : Pair). q ∷ []) o) p ∙ ap (with_pair first) e
-one-word word first (value ∷ words) more p e =
-    ap (first-word word value words) p
-    ∙ ap (with_pair first) e
+one-word word first words more p e = grind arith
 
 two-words : (name value : List ℕ) (words : List (List ℕ)) (more : List Pair) → pair_in name ≡ None
     → is_positional value ≡ true → pairs_of words ≡ Some more
     → pairs_of (name ∷ value ∷ words) ≡ Some (record { name = name; value = value } ∷ more)
-two-words name value words more n p e =
-    ap (first-word name value words) n
-    ∙ ap (λ (b : Bool). cond b (with_pair (record { name = name; value = value }) (pairs_of words))
-    None) p
-    ∙ ap (with_pair (record { name = name; value = value })) e
+two-words name value words more n p e = grind arith
 
 one-option : (name : List ℕ) → IsName name
     → (joined : Bool) (text : List ℕ) (words : List (List ℕ)) (more : List Pair)
     → cond joined (nat_le 1 (length text)) (is_positional text) ≡ true → pairs_of words ≡ Some more
     → pairs_of (option name (record { joined = joined; text = text }) ++ words)
     ≡ Some (record { name = name; value = text } ∷ more)
-one-option name is true [] words more m e = absurd cc
-one-option name is true (byte ∷ text) words more m e =
-    one-word (name ++ 61 ∷ byte ∷ text) (record { name = name; value = byte ∷ text }) words more
-    (is.joined byte text) e
-one-option name is false text words more m e = two-words name text words more is.alone m e
+one-option name is joined text words more m e = grind arith
 
 pub option_read : (name : List ℕ) → IsName name
     → (value : Value) (words : List (List ℕ)) (more : List Pair)
@@ -62,12 +51,10 @@ pub option_read : (name : List ℕ) → IsName name
 option_read name is value words more m e = one-option name is value.joined value.text words more m e
 
 pub and-left : (a b : Bool) → (a && b) ≡ true → a ≡ true
-and-left true b e = refl
-and-left false b e = absurd cc
+and-left a b e = grind arith
 
 pub and-right : (a b : Bool) → (a && b) ≡ true → b ≡ true
-and-right true b e = e
-and-right false b e = absurd cc
+and-right a b e = grind arith
 
 pub options_read : (name : List ℕ) → IsName name
     → (values : List Value) (words : List (List ℕ)) (more : List Pair) → AllMayStand values
@@ -83,8 +70,7 @@ options_read name is (value ∷ values) words more m e =
 
 pub option_alone : (name : List ℕ) → IsName name → (value : Value) → may_stand value ≡ true
     → pairs_of (option name value) ≡ Some (pair name value ∷ [])
-option_alone name is value m =
-    ap pairs_of (sym (append-nil (option name value))) ∙ option_read name is value [] [] m refl
+option_alone name is value m = grind (arith, append-nil, option_read)
 
 pub options_alone : (name : List ℕ) → IsName name → (values : List Value) → AllMayStand values
     → pairs_of (options name values) ≡ Some (pairs name values ++ [])
@@ -103,17 +89,14 @@ first-value name first more same =
 pub values_same : (name : List ℕ) → IsName name → (values : List Value) (more : List Pair)
     → values_of name (pairs name values ++ more) ≡ map text_of values ++ values_of name more
 values_same name is [] more = refl
-values_same name is (value ∷ values) more =
-    ap (first-value name (pair name value) (pairs name values ++ more)) is.same
-    ∙ ap (λ vs. value.text ∷ vs) (values_same name is values more)
+values_same name is (value ∷ values) more = grind (arith, (values_same name is values more))
 
 pub values_other : (name other : List ℕ) → bytes_eq other name ≡ false
     → (values : List Value) (more : List Pair)
     → values_of name (pairs other values ++ more) ≡ values_of name more
 values_other name other e [] more = refl
 values_other name other e (value ∷ values) more =
-    ap (first-value name (pair other value) (pairs other values ++ more)) e
-    ∙ values_other name other e values more
+    grind (arith, (values_other name other e values more))
 
 pub known_pairs : (names : List (List ℕ)) (name : List ℕ)
     → list_any (λ (known : List ℕ). bytes_eq name known) names ≡ true
@@ -121,5 +104,4 @@ pub known_pairs : (names : List (List ℕ)) (name : List ℕ)
     → are_known names (pairs name values ++ more) ≡ are_known names more
 known_pairs names name e [] more = refl
 known_pairs names name e (value ∷ values) more =
-    ap (λ (b : Bool). b && are_known names (pairs name values ++ more)) e
-    ∙ known_pairs names name e values more
+    grind (arith, (known_pairs names name e values more))

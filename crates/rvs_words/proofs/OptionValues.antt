@@ -1,5 +1,6 @@
 -- The value of an option that stands once, and of one that needn't stand.
-use Rattle.std.proofs.Common.{◌≡◌, ℕ, Bool, false, ◌<◌, List, [], ◌∷◌, length, Option, Some, None, refl, arith}
+use Rattle.std.proofs.Common.{◌≡◌, ℕ, Bool, false, ◌<◌, List, length, Option, Some, None}
+use Rattle.std.proofs.Common.{arith}
 use Rattle.std.specs.Prelude.{option_map, option_and_then}
 use Rattle.rvs_words.specs.Words.{only, at_most_one}
 use Rattle.rvs_words.specs.Commands.{number_of, within_steps, steps_of, flag_with, flag_of}
@@ -9,9 +10,7 @@ itself value = value
 
 pub only_is_at_most_one : (values : List (List ℕ))
     → only values ≡ option_and_then itself (at_most_one values)
-only_is_at_most_one [] = refl
-only_is_at_most_one (value ∷ []) = refl
-only_is_at_most_one (value ∷ other ∷ values) = refl
+only_is_at_most_one values = grind arith
 
 -- a number of steps, where one is given
 abbrev pub steps_given : Option (List ℕ) → Option (Option ℕ)
@@ -20,9 +19,7 @@ steps_given (Some text) = option_map Some (within_steps (number_of text))
 
 pub steps_are_at_most_one : (values : List (List ℕ))
     → steps_of values ≡ option_and_then steps_given (at_most_one values)
-steps_are_at_most_one [] = refl
-steps_are_at_most_one (value ∷ []) = refl
-steps_are_at_most_one (value ∷ other ∷ values) = refl
+steps_are_at_most_one values = grind arith
 
 -- whether a flag stands
 abbrev pub flag_given : Option (List ℕ) → Option Bool
@@ -31,11 +28,7 @@ flag_given (Some value) = flag_with value
 
 pub flags_are_at_most_one : (values : List (List ℕ))
     → flag_of values ≡ option_and_then flag_given (at_most_one values)
-flags_are_at_most_one [] = refl
-flags_are_at_most_one (value ∷ []) = refl
-flags_are_at_most_one (value ∷ other ∷ values) = refl
+flags_are_at_most_one values = grind arith
 
 pub more_than_one : (values : List (List ℕ)) → 1 < length values → at_most_one values ≡ None
-more_than_one [] h = absurd (omega arith)
-more_than_one (value ∷ []) h = absurd (omega arith)
-more_than_one (value ∷ other ∷ values) h = refl
+more_than_one values h = grind arith

@@ -4,14 +4,12 @@ use Rattle.std.proofs.Common.{◌++◌, length, Some, None, refl, ap, ◌∙◌,
 use Rattle.std.proofs.lemmas.Bool.Decides.{nat_tests}
 use Rattle.std.proofs.lemmas.Bool.{le-leb}
 use Rattle.std.proofs.lemmas.Fmt.{length-decimal-le, decimal-digits_of}
-use Rattle.std.specs.Prelude.{◌==◌, ◌&&◌, ◌||◌, nat_le, map, option_map, option_and_then}
+use Rattle.std.specs.Prelude.{◌==◌, ◌&&◌, nat_le, map}
 use Rattle.std.specs.Fmt.{decimal}
 use Rattle.std.specs.List.{list_any}
 use Rattle.rvs_base.specs.Digits.{digits_of}
-use Rattle.std.specs.Int.Digits.{digits_of as places_of}
 use Rattle.rvs_base.specs.Lines.{before, after}
 use Rattle.rvs_base.proofs.Readings.{digits_of-decimal}
-use Rattle.rvs_parts.specs.Parts.{part_between}
 use Rattle.rvs_words.specs.PartWords.{part_number}
 use Rattle.rvs_words.specs.CommandLaws.{PartsAreRead}
 use Rattle.rvs_words.proofs.FirstCuts.{not-left, not-right}
@@ -21,13 +19,10 @@ is-slash byte = byte == 47
 
 no-slash : (ds : List ℕ) → list_any is-slash (map (λ d. 48 + d) ds) ≡ false
 no-slash [] = refl
-no-slash (d ∷ ds) =
-    let other : (48 + d == 47) ≡ false = grind (arith, nat_tests) in
-    ap (λ (b : Bool). b || list_any is-slash (map (λ d. 48 + d) ds)) other ∙ no-slash ds
+no-slash (d ∷ ds) = grind (arith, (no-slash ds))
 
 decimal-plain : (n : ℕ) → 0 < n → n < 2 ^ 64 → list_any is-slash (decimal n) ≡ false
-decimal-plain n low high =
-    ap (list_any is-slash) (decimal-digits_of n low high) ∙ no-slash (places_of 10 n)
+decimal-plain n low high = simp (decimal-digits_of, no-slash)
 
 before-slash : (front back : List ℕ) → list_any is-slash front ≡ false
     → before 47 (front ++ 47 ∷ back) ≡ front
@@ -59,12 +54,4 @@ between at of low mid high = grind (arith, nat_tests)
 
 pub parts_are_read : PartsAreRead
 parts_are_read at of low mid high =
-    let plain = decimal-plain at (omega arith) (omega arith) in
-    (λ k. option_map Some (option_and_then
-    (λ a. option_and_then (λ o. part_between a o)
-    (option_and_then part_number (after-slash (decimal at) (decimal of) plain k)))
-    (part_number (before-slash (decimal at) (decimal of) plain k))))
-    ∙ (λ k. option_map Some (option_and_then (λ a. option_and_then (λ o. part_between a o)
-    (number-read of high k)) (number-read at (omega arith) k)))
-    ∙ ap (λ (t : Bool). option_map Some (cond t (Some (record { at = at; of = of })) None))
-    (between at of low mid high)
+    grind (arith, decimal-plain, after-slash, before-slash, number-read, between)

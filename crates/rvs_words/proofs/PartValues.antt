@@ -1,5 +1,5 @@
 -- The value of an option that is a part.
-use Rattle.std.proofs.Common.{◌≡◌, ℕ, List, [], ◌∷◌, Option, Some, None, refl}
+use Rattle.std.proofs.Common.{◌≡◌, ℕ, List, Option, Some, None, arith}
 use Rattle.std.specs.Prelude.{option_map, option_and_then}
 use Rattle.rvs_parts.specs.Parts.{PartValue}
 use Rattle.rvs_words.specs.Words.{at_most_one}
@@ -12,6 +12,4 @@ part_given (Some text) = option_map Some (part_of text)
 
 pub parts_are_at_most_one : (values : List (List ℕ))
     → parts_of values ≡ option_and_then part_given (at_most_one values)
-parts_are_at_most_one [] = refl
-parts_are_at_most_one (value ∷ []) = refl
-parts_are_at_most_one (value ∷ other ∷ values) = refl
+parts_are_at_most_one values = grind arith

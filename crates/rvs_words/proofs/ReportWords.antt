@@ -1,6 +1,6 @@
 -- The words of `report` ask for it.
-use Rattle.std.proofs.Common.{◌≡◌, ◌≤◌, ℕ, Bool, true, false, cond, List, [], ◌∷◌, ◌++◌, length}
-use Rattle.std.proofs.Common.{Option, Some, None, refl, ap, ◌∙◌, bytes_eq, codes, arith}
+use Rattle.std.proofs.Common.{◌≡◌, ◌≤◌, ℕ, true, false, List, [], ◌∷◌, ◌++◌, length}
+use Rattle.std.proofs.Common.{Option, Some, refl, ap, ◌∙◌, bytes_eq, codes, arith}
 use Rattle.std.specs.Prelude.{nat_le, map}
 use Rattle.std.proofs.lemmas.Bool.Decides.{nat_tests}
 use Rattle.std.proofs.lemmas.List.{length-map}
@@ -8,12 +8,11 @@ use Rattle.rvs_words.specs.Words.{only, values_of}
 use Rattle.rvs_words.specs.Windows.{windows_of}
 use Rattle.rvs_words.specs.FamilyWords.{families_of}
 use Rattle.rvs_abstract.specs.declared.families.Families.{Families}
-use Rattle.rvs_text.specs.Options.{◌>>=◌}
 use Rattle.rvs_words.specs.Commands.{Values, some_of, up_to, report_options, report_of}
 use Rattle.rvs_base.specs.declared.asked.Window.{Window}
 use Rattle.rvs_words.specs.declared.words.Pair.{Pair}
 use Rattle.rvs_words.specs.declared.command.Command.TheVariants.{Report}
-use Rattle.rvs_words.specs.CommandLaws.{Value, option, options, text_of, listed, ReportsAreRead}
+use Rattle.rvs_words.specs.CommandLaws.{Value, option, options, text_of, ReportsAreRead}
 use Rattle.rvs_words.proofs.OptionPairs.{pair, pairs, option_read, options_read, values_other}
 use Rattle.rvs_words.proofs.OptionPairs.{known_pairs}
 use Rattle.rvs_words.proofs.CommandWords.{isa-name, cgf-name, device-name, work-name, log-name}
@@ -27,8 +26,7 @@ few most values low = simp length-map (grind (arith, nat_tests))
 
 all-of : (most : ℕ) (values : List Value) → length values ≤ most
     → up_to most (map text_of values) ≡ Some (map text_of values)
-all-of most values low =
-    ap (λ (b : Bool). cond b (Some (map text_of values)) None) (few most values low)
+all-of most values low = simp few
 
 pub report-of : (values : Values) (isa device work : List ℕ) (groups logs : List (List ℕ))
     (kept : List Window) (read : Families)
@@ -48,17 +46,7 @@ pub report-of : (values : Values) (isa device work : List ℕ) (groups logs : Li
       windows = kept;
       families = read;
     }))
-report-of values isa device work groups logs kept read a b c d e f g =
-    λ k. a k >>= (λ isa. b k >>= (λ groups. c k >>= (λ device. d k >>= (λ work.
-    e k >>= (λ logs. f k >>= (λ windows. g k >>= (λ families. Some (Report (record {
-      isa = isa;
-      groups = groups;
-      device = device;
-      work = work;
-      logs = logs;
-      windows = windows;
-      families = families;
-    })))))))))
+report-of values isa device work groups logs kept read a b c d e f g = grind arith
 
 -- what stands behind the folder
 abbrev tail-pairs : List Value → List Value → Option Value → List Pair
@@ -74,11 +62,7 @@ not-tail : (name : List ℕ) → bytes_eq (codes "--log") name ≡ false
     → bytes_eq (codes "--window") name ≡ false → bytes_eq (codes "--families") name ≡ false
     → (logs windows : List Value) (families : Option Value)
     → values_of name (tail-pairs logs windows families) ≡ []
-not-tail name a b c logs windows families =
-    values_other name (codes "--log") a logs (pairs (codes "--window") windows
-    ++ last-pairs families)
-    ∙ values_other name (codes "--window") b windows (last-pairs families)
-    ∙ not-last name c families
+not-tail name a b c logs windows families = simp (values_other, codes, last-pairs, not-last)
 
 pub reports_are_read : ReportsAreRead
 reports_are_read program isa device work groups logs windows families kept read m l w f enough

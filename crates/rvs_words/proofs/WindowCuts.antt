@@ -1,7 +1,6 @@
 -- A window by what stands around its colon, and an address by what stands behind `0x`.
 use Rattle.std.proofs.Common.{◌≡◌, ℕ, suc, ◌+◌, Bool, true, false, cond, List, [], ◌∷◌, length}
 use Rattle.std.proofs.Common.{take, drop, Option, Some, None, refl, ap, ◌∙◌, bytes_eq, codes, arith}
-use Rattle.std.proofs.lemmas.Bool.Decides.{nat_tests}
 use Rattle.std.specs.Prelude.{◌==◌, ◌&&◌, not, nat_lt, option_and_then}
 use Rattle.std.specs.List.{position_or_len}
 use Rattle.rvs_base.specs.Digits.{short_number}
@@ -29,23 +28,11 @@ abbrev behind : List ℕ → ℕ → Option (List ℕ)
 behind text n = cond (nat_lt n (length text)) (Some (drop (n + 1) text)) None
 
 one-more : (byte : ℕ) (text : List ℕ) (n : ℕ) → behind (byte ∷ text) (1 + n) ≡ behind text n
-one-more byte text n =
-    let same : nat_lt (1 + n) (length (byte ∷ text)) ≡ nat_lt n (length text) =
-    grind (arith, nat_tests) in
-    let next : 1 + n + 1 ≡ suc (n + 1) = omega arith in
-    ap (λ t. cond t (Some (drop (1 + n + 1) (byte ∷ text))) None) same
-    ∙ ap (λ k. cond (nat_lt n (length text)) (Some (drop k (byte ∷ text))) None) next
+one-more byte text n = grind arith
 
 back : (text : List ℕ) → behind text (ahead text) ≡ after 58 text
 back [] = refl
-back (byte ∷ text) = by (byte == 58) (ahead text) (back text)
-  where
-    by : (b : Bool) (n : ℕ) → behind text n ≡ after 58 text
-        → behind (byte ∷ text) (cond (not b) (1 + n) 0) ≡ cond b (Some text) (after 58 text)
-    by true n e =
-        let some : nat_lt 0 (length (byte ∷ text)) ≡ true = grind (arith, nat_tests) in
-        ap (λ t. cond t (Some text) None) some
-    by false n e = one-more byte text n ∙ e
+back (byte ∷ text) = grind (arith, one-more, (back text))
 
 abbrev pub around : List ℕ → Option (List ℕ) → Option Window
 around lo hi = option_and_then
@@ -55,8 +42,7 @@ abbrev no-window : ℕ → Option Window
 no-window lo = None
 
 nowhere : (lo : Option ℕ) → None ≡ option_and_then no-window lo
-nowhere None = refl
-nowhere (Some lo) = refl
+nowhere lo = grind arith
 
 pub window_is_cut : (text : List ℕ) → window_of text ≡ around (before 58 text) (after 58 text)
 unfolding window_of
@@ -70,17 +56,11 @@ window_is_cut text =
 
 both : (first second : Bool) (number : Option ℕ)
     → cond (first && second) number None ≡ cond (first && (second && true)) number None
-both true true number = refl
-both true false number = refl
-both false second number = refl
+both first second number = grind arith
 
 one-alone : (first : Bool) (number : Option ℕ) → None ≡ cond (first && false) number None
-one-alone true number = refl
-one-alone false number = refl
+one-alone first number = grind arith
 
 pub address_is_prefixed : (text : List ℕ) → address_of text
     ≡ cond (bytes_eq (take 2 text) (codes "0x")) (short_number 8 16 (drop 2 text)) None
-address_is_prefixed [] = refl
-address_is_prefixed (first ∷ []) = one-alone (first == 48) (short_number 8 16 [])
-address_is_prefixed (first ∷ second ∷ digits) =
-    both (first == 48) (second == 120) (short_number 8 16 digits)
+address_is_prefixed text = grind arith

@@ -1,15 +1,14 @@
 -- The text of a window gives it.
-use Rattle.std.proofs.Common.{◌≡◌, ℕ, ◌+◌, ◌/◌, ◌%◌, ◌^◌, ◌<◌, ◌≤◌, Bool, true, false, cond, List}
-use Rattle.std.proofs.Common.{[], ◌∷◌, ◌++◌, length, Some, None, refl, ap, ◌∙◌, codes, arith}
+use Rattle.std.proofs.Common.{◌≡◌, ℕ, ◌/◌, ◌%◌, ◌^◌, ◌<◌, ◌≤◌, Bool, true, false, List}
+use Rattle.std.proofs.Common.{[], ◌∷◌, ◌++◌, length, Some, refl, ap, ◌∙◌, codes, arith}
 use Rattle.std.proofs.lemmas.List.{length-append, length-map}
 use Rattle.std.proofs.lemmas.Bool.Decides.{nat_tests}
 use Rattle.std.specs.Prelude.{◌==◌, nat_le, nat_lt, map, position, option_and_then}
 use Rattle.std.specs.List.{list_any}
 use Rattle.rvs_base.specs.Number.{hex_digit_of, hex_word_of}
-use Rattle.rvs_base.specs.Digits.{digits_of}
 use Rattle.rvs_base.proofs.HexDigits.{length-hex_word_of}
 use Rattle.rvs_base.proofs.Readings.{digits_of-hex_word}
-use Rattle.rvs_words.specs.Windows.{address_of, window_between, window_at, window_of, with_window}
+use Rattle.rvs_words.specs.Windows.{address_of, window_at, window_of, with_window}
 use Rattle.rvs_words.specs.Windows.{all_windows}
 use Rattle.rvs_base.specs.declared.asked.Window.{Window}
 use Rattle.rvs_words.specs.CommandLaws.{window_text, AreWindows, WindowsAreRead}
@@ -24,10 +23,7 @@ abbrev address-text : ℕ → List ℕ
 address-text w = codes "0x" ++ hex_word_of w
 
 address-read : (w : ℕ) → w < 2 ^ 32 → address_of (address-text w) ≡ Some w
-address-read w h =
-    let eight : nat_le (length (hex_word_of w)) 8 ≡ true =
-    ap (λ n. nat_le n 8) (length-hex_word_of w) in
-    ap (λ (t : Bool). cond t (digits_of 16 (hex_word_of w)) None) eight ∙ digits_of-hex_word w h
+address-read w h = simp (length-hex_word_of, digits_of-hex_word)
 
 abbrev is-colon : ℕ → Bool
 is-colon byte = byte == 58
@@ -51,10 +47,7 @@ within-text front byte back = simp length-append (grind (arith, nat_tests))
 
 colon-at : (front back : List ℕ) → list_any is-colon front ≡ false
     → position is-colon (front ++ 58 ∷ back) ≡ Some (length front)
-colon-at front back none =
-    let at = first-at is-colon front 58 back none refl in
-    (λ k. cond (nat_lt (at k) (length (front ++ 58 ∷ back))) (Some (at k)) None)
-    ∙ ap (λ (b : Bool). cond b (Some (length front)) None) (within-text front 58 back)
+colon-at front back none = simp (first-at, within-text)
 
 below : (lo hi : ℕ) → lo < hi → nat_lt lo hi ≡ true
 below lo hi h = grind (arith, nat_tests)
@@ -62,11 +55,7 @@ below lo hi h = grind (arith, nat_tests)
 window-at : (front back : List ℕ) (lo hi : ℕ) → address_of front ≡ Some lo
     → address_of back ≡ Some hi → lo < hi
     → window_at (front ++ 58 ∷ back) (length front) ≡ Some (record { lo = lo; hi = hi })
-window-at front back lo hi a b h =
-    let first = ap address_of (take-front front (58 ∷ back)) ∙ a in
-    let second = ap address_of (drop-front front 58 back (length front + 1) refl) ∙ b in
-    (λ k. option_and_then (λ l. option_and_then (λ h. window_between l h) (second k)) (first k))
-    ∙ ap (λ (t : Bool). cond t (Some (record { lo = lo; hi = hi })) None) (below lo hi h)
+window-at front back lo hi a b h = grind (arith, take-front, drop-front, below)
 
 window-read : (w : Window) → w.lo < w.hi → w.hi < 2 ^ 32 → window_of (window_text w) ≡ Some w
 unfolding window_of
@@ -90,9 +79,7 @@ few : (windows : List Window) → length windows ≤ 16
 few windows h = simp length-map (grind (arith, nat_tests))
 
 pub windows_are_read : WindowsAreRead
-windows_are_read windows h are =
-    ap (λ (t : Bool). cond t (all_windows (map window_text windows)) None) (few windows h)
-    ∙ all-read windows are
+windows_are_read windows h are = simp (few, all-read)
 
 pub ranges_are_read : RangesAreRead
 ranges_are_read names range h l =
@@ -104,9 +91,7 @@ same-count n m same = grind (arith, nat_tests)
 
 each-is-given : (names : List (List ℕ)) (ranges : List Window) → length ranges ≡ length names
     → with_each names ranges ≡ Some (signed_each names ranges)
-each-is-given names ranges same =
-    ap (λ (t : Bool). cond t (Some (signed_each names ranges)) None)
-    (same-count (length ranges) (length names) same)
+each-is-given names ranges same = simp same-count
 
 given-each : (names : List (List ℕ)) (ranges : List Window) → length ranges ≡ length names
     → with_ranges names ranges ≡ Some (signed_each names ranges)
@@ -114,9 +99,7 @@ given-each names [] same = each-is-given names [] same
 given-each [] (range ∷ []) same = refl
 given-each (name ∷ []) (range ∷ []) same = refl
 given-each (name ∷ other ∷ names) (range ∷ []) same = absurd (omega arith)
-given-each names (range ∷ second ∷ ranges) same =
-    each-is-given names (range ∷ second ∷ ranges) same
+given-each names (range ∷ second ∷ ranges) same = simp each-is-given
 
 pub ranges_are_read_each : RangesAreReadEach
-ranges_are_read_each names ranges same are =
-    ap (option_and_then (with_ranges names)) (all-read ranges are) ∙ given-each names ranges same
+ranges_are_read_each names ranges same are = simp (all-read, given-each)

@@ -98,7 +98,8 @@ normalize_of values = do
   Some (Normalize (record { isa = isa; groups = groups; families = families }))
 
 abbrev pub generate_options : List (List ℕ)
-generate_options = codes "--isa" ∷ codes "--cgf" ∷ codes "--work" ∷ codes "--part" ∷ codes "--families" ∷ []
+generate_options =
+    codes "--isa" ∷ codes "--cgf" ∷ codes "--work" ∷ codes "--part" ∷ codes "--families" ∷ []
 
 abbrev pub generate_of : Values → Option Command
 generate_of values = do

@@ -34,8 +34,8 @@ pub fn owned(alloc: Global, word: &str) -> Result<Text, NoMemory>
     Ok(Text::from(String::from_str(alloc, word)?))
 }
 
-/// An option in one word: its name and its value, with `=` between, or the option that has no value.
-/// No other value is empty.
+/// An option in one word: its name and its value, with `=` between, or the option that has no
+/// value. No other value is empty.
 fn pair_in(word: &str) -> Option<(&str, &str)>
     ensures { MatchOption result (pair_in word.now ≡ None)
         (λ x. pair_in word.now ≡ Some (record { name = x.0.now; value = x.1.now })) }

@@ -1,8 +1,7 @@
 -- Which blocks are around what merges into them.
 use Rattle.std.proofs.Common.{◌≡◌, ℕ, ◌≤◌, ◌<◌, ◌+◌, Bool, true, false, cond, List, [], ◌∷◌, ◌++◌}
-use Rattle.std.proofs.Common.{refl, sym, ap, ◌∙◌, subst, arith, length, take, get_or}
+use Rattle.std.proofs.Common.{refl, sym, ap, ◌∙◌, subst, arith, length, take, get_or, rules}
 use Rattle.std.proofs.Math.Dec.{eqb}
-use Rattle.std.proofs.lemmas.Bool.{eqb-true, eqb-false}
 use Rattle.std.proofs.lemmas.Option.{slice_get-get_or}
 use Rattle.std.specs.Prelude.{◌||◌}
 use Rattle.rvs_tree.specs.Shown.{Holds}
@@ -11,7 +10,7 @@ use Rattle.rvs_tree.proofs.Sifting.{in-more}
 use Rattle.rvs_tree.proofs.Sums.{has_key-append}
 use Rattle.rvs_yaml.specs.Chain.{chained, in_chain, done_keys, chain_keys}
 use Rattle.rvs_yaml.specs.Around.{AreAround}
-use Rattle.rvs_yaml.specs.Stack.{Done, done_items, done_entries, alone, Open}
+use Rattle.rvs_yaml.specs.Stack.{Done, Open}
 use Rattle.rvs_yaml.specs.StackView.{done_view, open_view, stack_view}
 use Rattle.rvs_yaml.specs.declared.open.Open as code
 use Rattle.rvs_yaml.proofs.Lookups.{stack-more}
@@ -23,9 +22,7 @@ chain-none (b ∷ bs) e = ap (λ t. cond t (done_keys b.done ++ chain_keys bs) [
 
 -- a map that merges does so whatever is around it
 pub chained-more : (d : Done) (inside : Bool) → chained d false ≡ true → chained d inside ≡ true
-chained-more (done_items vs) inside e = cc
-chained-more (done_entries ws k) inside e = e
-chained-more alone inside e = cc
+chained-more d inside e = grind arith
 
 pub front-key : (k : List ℕ) (A B : List (List ℕ)) → has_key k A ≡ true
     → has_key k (A ++ B) ≡ true
@@ -35,23 +32,17 @@ front-key k A B h = has_key-append k A B ∙ ap (λ b. b || has_key k B) h
 pub keys-around : (d : Done) (inside : Bool) (keys : List (List ℕ)) → (inside ≡ false → keys ≡ [])
     → chained d true ≡ true
     → Holds keys (cond (chained d inside) (done_keys d ++ keys) [])
-keys-around d true keys none e k h =
-    ap (λ t. has_key k (cond t (done_keys d ++ keys) [])) e ∙ in-more k (done_keys d) keys h
-keys-around d false keys none e k h =
-    let no : false ≡ true = sym (ap (has_key k) (none refl)) ∙ h in cc
+keys-around d inside keys none e = search (rules, in-more)
 
 pub own-around : (d : Done) (inside : Bool) (keys : List (List ℕ))
     → chained d inside ≡ true → Holds (done_keys d) (cond (chained d inside)
     (done_keys d ++ keys) [])
-own-around d inside keys e k h = ap (λ t. has_key k (cond t (done_keys d ++ keys) [])) e
-    ∙ front-key k (done_keys d) keys h
+own-around d inside keys e k h = grind (arith, front-key)
 
 -- what stands in place of a block that isn't there doesn't matter where there is one
 pub same-at : (bs : List code.Open) (m : ℕ) (b c : code.Open) → m < length bs
     → get_or bs m b ≡ get_or bs m c
-same-at bs m b c h =
-    let here = slice_get-get_or bs m b h in
-    let there = slice_get-get_or bs m c h in cc
+same-at bs m b c h = grind (arith, slice_get-get_or)
 
 same-block : (bs : List code.Open) (m : ℕ) (b c : code.Open) → m < length bs
     → b ≡ get_or bs m b → c ≡ get_or bs m c → b ≡ c
@@ -69,8 +60,7 @@ pub record Looked (bs : List code.Open) (at root end : ℕ) : Type 0 where
 
 by-test : {X : Type 0} (m j : ℕ) → m ≤ j → (b : Bool) → eqb j m ≡ b → (j ≡ m → X)
     → (m + 1 ≤ j → X) → X
-by-test m j l true e same above = same (eqb-true j m e)
-by-test m j l false e same above = above (omega (arith, l, eqb-false j m e))
+by-test m b l h e = grind arith
 
 by-place : {X : Type 0} (m j : ℕ) → m ≤ j → (j ≡ m → X) → (m + 1 ≤ j → X) → X
 by-place m j l same above = by-test m j l (eqb j m) refl same above
@@ -81,17 +71,7 @@ opened : (bs : List code.Open) (m root end : ℕ) (b : code.Open) → m < length
     → chained (done_view b.block.done) (in_chain (stack_view (take m bs))) ≡ true
     → AreAround bs m end
 opened bs m root end b here is g e j c l u at =
-    let I = in_chain (stack_view (take m bs)) in
-    let d = done_view b.block.done in
-    let view : stack_view (take (m + 1) bs) ≡ open_view b ∷ stack_view (take m bs) =
-    stack-more bs m b here ∙ ap (λ x. open_view x ∷ stack_view (take m bs)) (sym is) in
-    let inner = g.passing (ap in_chain view ∙ e) in
-    by-place m j l
-    (λ same. λ k h. g.more k (ap (λ xs. has_key k (chain_keys xs)) view
-    ∙ own-around d I (chain_keys (stack_view (take m bs))) e k
-    (ap (λ (x : code.Open). has_key k (done_keys (done_view x.block.done)))
-    (same-block bs m b c here is (at ∙ ap (λ i. get_or bs i c) same)) ∙ h)))
-    (λ above. inner j c above u at)
+    search (rules, stack-more, by-place, own-around, same-block)
 
 -- the next block outwards, whose open member passes what merges into it
 pub looked-more : (bs : List code.Open) (m root end : ℕ) (b : code.Open) → m < length bs

@@ -29,7 +29,7 @@ use Rattle.rvs_yaml.specs.Flow.{FlowState, member, behind_member, key_place, ent
 use Rattle.rvs_yaml.specs.Flow.{behind_entry}
 use Rattle.rvs_yaml.specs.Flow.{with_alias, with_value, closes, ends_with}
 use Rattle.rvs_yaml.specs.FlowParts.{alias_at, closed}
-use Rattle.rvs_yaml.specs.FlowSteps.{Reading, closed_by, into}
+use Rattle.rvs_yaml.specs.FlowSteps.{closed_by, into}
 use Rattle.rvs_tree.specs.Standin.{standin}
 
 pub known_key : (k : List ℕ) (ws : List Written) (l : Key)

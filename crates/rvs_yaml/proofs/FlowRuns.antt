@@ -1,6 +1,6 @@
 -- Reading a flow collection from left to right gives its value.
 use Rattle.std.proofs.Common.{◌≡◌, ℕ, Bool, true, false, List, [], ◌∷◌, ◌++◌, Some, Ok, Err, refl}
-use Rattle.std.proofs.Common.{sym, ap, ◌∙◌}
+use Rattle.std.proofs.Common.{sym, ap, ◌∙◌, arith}
 use Rattle.std.specs.Prelude.{◌&&◌}
 use Rattle.rvs_tree.specs.Value.{Value, Written}
 use Rattle.rvs_yaml.specs.Anchors.{Anchors}
@@ -9,8 +9,7 @@ use Rattle.rvs_yaml_text.specs.Word.{key_token, cut_key, colon_scalar, alias_tok
 use Rattle.rvs_yaml_text.specs.Word.{fault}
 use Rattle.rvs_yaml.specs.Checks.{Checked, ◌>>=◌, ◌>>◌}
 use Rattle.rvs_yaml.specs.Flow.{Nest, none, one, group, inside, ending, behind, nest, FlowState}
-use Rattle.rvs_yaml.specs.Flow.{member}
-use Rattle.rvs_yaml.specs.Flow.{behind_member, key_place, entry_value, behind_entry, first_place}
+use Rattle.rvs_yaml.specs.Flow.{first_place}
 use Rattle.rvs_yaml.specs.Flow.{with_value, with_token, may_open, closes, ends_with, fits}
 use Rattle.rvs_yaml.specs.Flow.{last_fits, entry_fits, collection, only_end, merged_well}
 use Rattle.rvs_yaml.specs.Flow.{flow_value}
@@ -100,10 +99,8 @@ open-going known line good b c place outer n =
 step-going : (known : Anchors) (line : ℕ) (r : Reading) (m : Token) (ms : List Token)
     → going known line r (nest (m ∷ ms))
     ≡ (flow_step false known line r m >>= λ s. going known line s (nest ms))
-step-going known line (open_in good b place outer) (opening c) ms =
-    open-going known line good b c place outer (nest ms)
-step-going known line (open_in good b place outer) (closing c) ms =
-    close-going known line good b c place outer (nest ms)
+step-going known line (open_in good b place outer) (opening c) ms = simp open-going
+step-going known line (open_in good b place outer) (closing c) ms = simp close-going
 step-going known line (open_in good b place outer) comma ms =
     resumed-rest known line good b place outer _
     ∙ token-going known line good b outer (with_token known line place comma) (nest ms)
@@ -146,11 +143,7 @@ step-going known line (whole v) late_colon ms = refl
 no_end : {A : Type 0} (line : ℕ) (good : Bool) (place : FlowState)
     → ((closes line place >>= λ v. let r : Checked (Value × Bool) = Ok (v, good) in r)
     >>= λ v. let r : Checked A = Err BadFlow in r) ≡ Err BadFlow
-no_end line good (member vs) = refl
-no_end line good (behind_member vs) = refl
-no_end line good (key_place ws) = refl
-no_end line good (entry_value ws k) = refl
-no_end line good (behind_entry ws) = refl
+no_end = grind arith
 
 end-going : (known : Anchors) (line : ℕ) (r : Reading) → going known line r none ≡ flow_end r
 end-going known line (open_in good b place []) = no_end line good place
@@ -175,8 +168,7 @@ flow_value-steps known line b ms =
 
 pub flow-ended : (known : Anchors) (line : ℕ) (b : Bracket) (ms : List Token)
     → flow_value known line b ms ≡ (flow_steps false known line (first_reading b) ms >>= ended)
-flow-ended known line b ms = flow_value-steps known line b ms
-    ∙ bind_assoc (flow_steps false known line (first_reading b) ms) _ _
+flow-ended known line b ms = simp (flow_value-steps, bind_assoc)
 
 pub last_fits-push : (ws : List Written) (w : Written) → last_fits (ws ++ w ∷ []) ≡ entry_fits w
 last_fits-push [] w = refl

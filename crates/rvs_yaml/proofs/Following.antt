@@ -1,11 +1,10 @@
 -- Each word of a line is below the one before it.
-use Rattle.std.proofs.Common.{◌≡◌, ℕ, suc, ◌<◌, Bool, true, false, List, [], ◌∷◌, Option, Some}
-use Rattle.std.proofs.Common.{None, Ok, sym, ap, arith}
-use Rattle.std.specs.Prelude.{◌||◌, ◌&&◌, ◌==◌, if◌then◌else◌, cond}
-use Rattle.std.specs.Str.{is_utf8}
+use Rattle.std.proofs.Common.{◌≡◌, ℕ, suc, ◌<◌, Bool, true, false, List, [], ◌∷◌, Option}
+use Rattle.std.proofs.Common.{Ok, arith}
+use Rattle.std.specs.Prelude.{◌&&◌, ◌==◌, if◌then◌else◌, cond}
 use Rattle.rvs_tree.specs.Value.{Value}
-use Rattle.rvs_yaml_text.specs.Word.{Shape, dash, refused, Word, Head, head_of, is_below, sort_of}
-use Rattle.rvs_yaml_text.specs.Word.{is_dash, is_bare_key, opens_block}
+use Rattle.rvs_yaml_text.specs.Word.{Shape, dash, refused, Word, Head, head_of, is_below}
+use Rattle.rvs_yaml_text.specs.Word.{opens_block}
 use Rattle.rvs_yaml_text.specs.Scalar.{is_blank, starts_with, ends_indicator}
 use Rattle.rvs_yaml_text.specs.Text.{word_at, word_of, words_at, last_words, line_words, is_mark}
 use Rattle.rvs_yaml_text.specs.Text.{item_name, anchored_shape, anchor_split, shape_from, key_of}
@@ -18,7 +17,7 @@ use Rattle.rvs_yaml.specs.Reach.{KeepsDepth}
 use Rattle.rvs_yaml.proofs.Sketching.{lt_test}
 use Rattle.rvs_yaml.proofs.Reaching.{then-ok, bind-ok, Below, Follows, Lined, words-kept}
 use Rattle.rvs_yaml_text.specs.declared.kind.YamlKind.{YamlKind}
-use Rattle.rvs_yaml_text.specs.declared.kind.YamlKind.TheVariants.{NotUtf8, TabIndent, Unsupported}
+use Rattle.rvs_yaml_text.specs.declared.kind.YamlKind.TheVariants.{TabIndent, Unsupported}
 
 -- a line that is refused wherever it stands
 no-next : (d : Done) (column : ℕ) (v : Value) (line at : ℕ) (kind : YamlKind) (e : Done)
@@ -64,24 +63,19 @@ no-step-by true b bs line at kind cs h = let bad =
 no-step-by false b bs line at kind cs h = no-settling bs b (own_found b) line at kind cs h
 
 no-below : (h : Head) (line at : ℕ) (kind : YamlKind) → Below h (word_at line at (refused kind))
-no-below h line at kind bs b cs e s =
-    absurd (no-step-by (is_below b.head (word_at line at (refused kind))) b bs line at kind cs s)
+no-below h line at kind bs b cs e s = grind (arith, no-step-by)
 
 right-below : (h : Head) (line column : ℕ) (s : Shape) → h.column < column
     → Below h (word_at line column s)
-right-below h line column s l bs b cs e k = ap
-    (λ t. t || (is_bare_key h.sort && is_dash (sort_of s) && h.column == column))
-    (sym (lt_test h.column column l))
+right-below h line column s l bs b cs e k = grind (arith, lt_test)
 
 choose : {A : Type 0} (P : A → Type 0) (t : Bool) (x y : A) → P x → P y
     → P (elim t as (λ _. A) [ true ↦ x | false ↦ y ])
-choose P true x y p q = p
-choose P false x y p q = q
+choose h e = grind arith
 
 follows-name : (h : Head) (line column : ℕ) (o : Option Shape) → h.column < column
     → Follows h (word_of line column o)
-follows-name h line column None l = tt
-follows-name h line column (Some s) l = (right-below h line column s l, tt)
+follows-name h line column o l = grind arith
 
 -- a tab in the indentation
 abbrev tab-word : ℕ → Bool → ℕ → Word
@@ -133,19 +127,11 @@ follows-words h line item column (b ∷ bs) l =
     )
 
 lined-name : (line column : ℕ) (o : Option Shape) → Lined (word_of line column o)
-lined-name line column None = tt
-lined-name line column (Some s) = tt
+lined-name line column o = grind arith
 
 lined-last : (line : ℕ) (item : Bool) (column : ℕ) (bytes : List ℕ)
     → Lined (last_words line item column bytes)
-lined-last line item column bytes =
-    choose Lined (is_blank true bytes) [] (elim (starts_with 9 bytes) as (λ _. List Word) [
-      | true ↦ tab-word line item column ∷ []
-      | false ↦ word_at line column (shape_from bytes (key_of bytes)) ∷ []
-    ]) tt (
-    choose Lined (starts_with 9 bytes) (tab-word line item column ∷ [])
-    (word_at line column (shape_from bytes (key_of bytes)) ∷ []) tt tt
-    )
+lined-last line item column bytes = grind (arith, choose)
 
 lined-words : (line : ℕ) (item : Bool) (column : ℕ) (bytes : List ℕ)
     → Lined (words_at line item column bytes)
@@ -166,8 +152,7 @@ lined-words line item column (b ∷ bs) =
     )
 
 lined-mark : (started : Bool) (w : Word) → Lined (if started then w ∷ [] else [])
-lined-mark true w = tt
-lined-mark false w = tt
+lined-mark started w = grind arith
 
 abbrev unmarked : ℕ → List ℕ → List Word
 unmarked line bytes = elim (is_mark 46 bytes) as (λ _. List Word) [
@@ -182,19 +167,9 @@ marked line started bytes = elim (is_mark 45 bytes) as (λ _. List Word) [
 ]
 
 lined-line : (line : ℕ) (started : Bool) (bytes : List ℕ) → Lined (line_words line started bytes)
-lined-line line started bytes =
-    choose Lined (is_utf8 bytes) (marked line started bytes) (word_at line 0 (refused NotUtf8) ∷ [])
-    (
-    choose Lined (is_mark 45 bytes)
-    (if started then word_at line 0 (refused Unsupported) ∷ [] else []) (unmarked line bytes)
-    (lined-mark started (word_at line 0 (refused Unsupported))) (
-    choose Lined (is_mark 46 bytes) (word_at line 0 (refused Unsupported) ∷ [])
-    (words_at line false 0 bytes) tt (lined-words line false 0 bytes)
-    )
-    ) tt
+lined-line line started bytes = grind (arith, choose, lined-mark, lined-words)
 
 -- THE LAW: behind a line only what its last word has brought can be too deep
 pub line-kept : (bs cs : List Open) (line : ℕ) (started : Bool) (bytes : List ℕ)
     → checked_front bs ≡ Ok tt → steps bs (line_words line started bytes) ≡ Ok cs → KeepsDepth cs
-line-kept bs cs line started bytes k h =
-    words-kept (line_words line started bytes) bs cs (lined-line line started bytes) k h
+line-kept bs cs line started bytes k h = grind (arith, words-kept, lined-line)

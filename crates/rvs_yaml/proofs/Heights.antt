@@ -1,26 +1,27 @@
 -- No flow collection is deeper than its tokens reach.
+use Rattle.std.proofs.lemmas.Bool.Decides.{nat_tests}
 use Rattle.std.proofs.Common.{◌≡◌, ℕ, suc, ◌+◌, ◌≤◌, max, Bool, false, List, [], ◌∷◌, ◌++◌, length}
-use Rattle.std.proofs.Common.{Option, Some, None, Ok, Err, refl, sym, ap, subst, ◌∙◌, arith}
+use Rattle.std.proofs.Common.{Option, Some, Ok, Err, sym, ap, subst, ◌∙◌, arith, rules}
 use Rattle.std.specs.Prelude.{◌&&◌}
 use Rattle.rvs_tree.specs.Data.{depth}
-use Rattle.rvs_tree.specs.Value.{Value, Written, scalar_value, list_value, map_value, explicit_keys}
+use Rattle.rvs_tree.specs.Value.{Value, Written}
 use Rattle.rvs_tree.specs.Bound.{values_depth, written_depth}
 use Rattle.rvs_tree.proofs.Sums.{values_depth-push, brought_small}
 use Rattle.rvs_tree.proofs.Merging.{list-depth, map-depth}
 use Rattle.rvs_tree.proofs.Depths.{written_depth-push}
-use Rattle.rvs_yaml_text.specs.Word.{Key, Bracket, square, curly, Token, opening, closing, comma}
+use Rattle.rvs_yaml_text.specs.Word.{Key, Bracket, Token, opening, closing, comma}
 use Rattle.rvs_yaml_text.specs.Word.{colon, scalar_token, key_token, cut_key, colon_scalar}
 use Rattle.rvs_yaml_text.specs.Word.{alias_token, late_colon, fault}
 use Rattle.rvs_yaml_text.specs.declared.kind.YamlKind.{YamlKind}
-use Rattle.rvs_yaml_text.specs.declared.kind.YamlKind.TheVariants.{BadFlow, BadScalar, BadMerge}
-use Rattle.rvs_yaml.specs.Checks.{Checked, ◌>>=◌, ◌>>◌, check}
+use Rattle.rvs_yaml_text.specs.declared.kind.YamlKind.TheVariants.{BadFlow, BadScalar}
+use Rattle.rvs_yaml.specs.Checks.{Checked, ◌>>=◌, ◌>>◌}
 use Rattle.rvs_yaml.specs.Anchors.{Anchors, lookup, known_alias}
 use Rattle.rvs_yaml.specs.Entry.{written}
 use Rattle.rvs_yaml.specs.Flow.{FlowState, member, behind_member, key_place, entry_value}
 use Rattle.rvs_yaml.specs.Flow.{behind_entry}
 use Rattle.rvs_yaml.specs.Flow.{first_place, new_key, with_value, with_comma, with_key}
 use Rattle.rvs_yaml.specs.Flow.{with_cut_key, with_colon_scalar, with_alias, with_fault, with_token}
-use Rattle.rvs_yaml.specs.Flow.{may_open, closes, ends_with, fits, flow_value}
+use Rattle.rvs_yaml.specs.Flow.{closes, ends_with, fits, flow_value}
 use Rattle.rvs_yaml.specs.FlowSteps.{Reading, open_in, whole, into, moved, flow_step, flow_steps}
 use Rattle.rvs_yaml.specs.FlowParts.{first_reading, ended}
 use Rattle.rvs_yaml.specs.Heights.{found_depth, level_behind, reach, height}
@@ -49,42 +50,24 @@ level_of (whole p) = 0
 
 bound : {A B : Type 0} (m : Checked A) (f : A → Checked B) (q : B) → (m >>= f) ≡ Ok q
     → (x : A) × (m ≡ Ok x) × (f x ≡ Ok q)
-bound (Ok x) f q h = (x, refl, h)
-bound (Err k) f q h = cc
+bound h = grind arith
 
 follows : {A B : Type 0} (m : Checked A) (n : Checked B) (q : B) → (m >> n) ≡ Ok q → n ≡ Ok q
-follows (Ok x) n q h = h
-follows (Err k) n q h = cc
+follows h = grind arith
 
 entry-deep : (ws : List Written) (k : Key) (v : Value)
     → written_depth (ws ++ written k v ∷ []) ≤ max (written_depth ws) (depth v.tree)
-entry-deep ws k v = omega
-    (arith, written_depth-push ws (written k v), brought_small (explicit_keys ws) k.merges v.tree)
+entry-deep ws k v = grind (arith, written_depth-push, brought_small)
 
 value-deep : (p q : FlowState) (v : Value) → with_value p v ≡ Ok q
     → place_depth q ≤ max (place_depth p) (depth v.tree)
-value-deep (member vs) q v h = let e : behind_member (vs ++ v ∷ []) ≡ q = cc in
-    omega (arith, ap place_depth e, values_depth-push vs v)
-value-deep (behind_member vs) q v h = cc
-value-deep (key_place ws) q v h = cc
-value-deep (entry_value ws k) q v h = let e : behind_entry (ws ++ written k v ∷ []) ≡ q = cc in
-    omega (arith, ap place_depth e, entry-deep ws k v)
-value-deep (behind_entry ws) q v h = cc
+value-deep p q v h = search (rules, values_depth-push, entry-deep)
 
 comma-deep : (p q : FlowState) → with_comma p ≡ Ok q → place_depth q ≡ place_depth p
-comma-deep (member vs) q h = cc
-comma-deep (behind_member vs) q h = let e : member vs ≡ q = cc in sym (ap place_depth e)
-comma-deep (key_place ws) q h = cc
-comma-deep (entry_value ws k) q h = cc
-comma-deep (behind_entry ws) q h = let e : key_place ws ≡ q = cc in sym (ap place_depth e)
+comma-deep p q h = grind arith
 
 key-deep : (p q : FlowState) (k : Key) → with_key p k ≡ Ok q → place_depth q ≡ place_depth p
-key-deep (member vs) q k h = cc
-key-deep (behind_member vs) q k h = cc
-key-deep (key_place ws) q k h = let is = follows (new_key ws k) (Ok (entry_value ws k)) q h in
-    let e : entry_value ws k ≡ q = cc in sym (ap place_depth e)
-key-deep (entry_value ws l) q k h = cc
-key-deep (behind_entry ws) q k h = cc
+key-deep p q k h = grind arith
 
 cut-deep : (p q : FlowState) (k : Key) → with_cut_key p k ≡ Ok q → ⊥
 cut-deep (member vs) q k h = cc
@@ -109,27 +92,11 @@ fault-deep (entry_value ws l) q kind h = cc
 fault-deep (behind_entry ws) q kind h = cc
 
 found-deep : (o : Option Value) (v : Value) → known_alias o ≡ Ok v → depth v.tree ≡ found_depth o
-found-deep None v h = cc
-found-deep (Some u) v h = let e : u ≡ v = cc in sym (ap (λ (x : Value). depth x.tree) e)
+found-deep o v h = grind arith
 
 alias-deep : (known : Anchors) (p q : FlowState) (name : List ℕ) → with_alias known p name ≡ Ok q
     → place_depth q ≤ max (place_depth p) (found_depth (lookup name known))
-alias-deep known (member vs) q [] h = cc
-alias-deep known (entry_value ws k) q [] h = cc
-alias-deep known (member vs) q (b ∷ bs) h =
-    let (v, e, i) = bound (known_alias (lookup (b ∷ bs) known))
-    (λ v. let r : Checked FlowState = Ok (behind_member (vs ++ v ∷ [])) in r) q h in
-    omega (arith, value-deep (member vs) q v i, found-deep (lookup (b ∷ bs) known) v e)
-alias-deep known (entry_value ws k) q (b ∷ bs) h =
-    let (v, e, i) = bound (known_alias (lookup (b ∷ bs) known))
-    (λ v. let r : Checked FlowState = Ok (behind_entry (ws ++ written k v ∷ [])) in r) q h in
-    omega (arith, value-deep (entry_value ws k) q v i, found-deep (lookup (b ∷ bs) known) v e)
-alias-deep known (key_place ws) q [] h = cc
-alias-deep known (key_place ws) q (b ∷ bs) h = cc
-alias-deep known (behind_member vs) q [] h = cc
-alias-deep known (behind_member vs) q (b ∷ bs) h = cc
-alias-deep known (behind_entry ws) q [] h = cc
-alias-deep known (behind_entry ws) q (b ∷ bs) h = cc
+alias-deep known p q name h = search (rules, bound, value-deep, found-deep)
 
 -- a token that is no bracket
 token-deep : (known : Anchors) (line level : ℕ) (p q : FlowState) (m : Token) (n : ℕ)
@@ -139,31 +106,17 @@ token-deep known line level p q (opening b) n h d r = cc
 token-deep known line level p q (closing b) n h d r = cc
 token-deep known line level p q comma n h d r = omega (arith, comma-deep p q h, d)
 token-deep known line level p q colon n h d r = absurd (fault-deep p q BadScalar h)
-token-deep known line level p q (scalar_token k) n h d r =
-    omega (arith, value-deep p q (scalar_value k.name line) h, d, r)
+token-deep known line level p q (scalar_token k) n h d r = omega (arith, value-deep)
 token-deep known line level p q (key_token k) n h d r = omega (arith, key-deep p q k h, d)
 token-deep known line level p q (cut_key k) n h d r = absurd (cut-deep p q k h)
 token-deep known line level p q (colon_scalar b) n h d r = absurd (colon-deep p q b h)
-token-deep known line level p q (alias_token name) n h d r =
-    omega (arith, alias-deep known p q name h, d, r)
+token-deep known line level p q (alias_token name) n h d r = omega (arith, alias-deep)
 token-deep known line level p q late_colon n h d r = cc
 token-deep known line level p q (fault kind) n h d r = absurd (fault-deep p q kind h)
 
 closes-deep : (line : ℕ) (p : FlowState) (v : Value) → closes line p ≡ Ok v
     → depth v.tree ≤ suc (place_depth p)
-closes-deep line (member vs) v h = let e : list_value line vs ≡ v = cc in
-    omega (arith, ap (λ (x : Value). depth x.tree) e, list-depth vs)
-closes-deep line (behind_member vs) v h = let e : list_value line vs ≡ v = cc in
-    omega (arith, ap (λ (x : Value). depth x.tree) e, list-depth vs)
-closes-deep line (key_place ws) v h = let e : map_value line ws ≡ v = cc in
-    omega (arith, ap (λ (x : Value). depth x.tree) e, map-depth ws)
-closes-deep line (entry_value ws k) v h = cc
-closes-deep line (behind_entry ws) v h = let e : map_value line ws ≡ v = cc in
-    omega (arith, ap (λ (x : Value). depth x.tree) e, map-depth ws)
-
-first-deep : (b : Bracket) → place_depth (first_place b) ≡ 0
-first-deep square = refl
-first-deep curly = refl
+closes-deep line p v h = search (rules, list-depth, map-depth)
 
 whole-reading : (v : Value) (good : Bool) (s : Reading) (n : ℕ)
     → (let r : Checked Reading = Ok (whole (v, good)) in r) ≡ Ok s → depth v.tree ≤ n → Within s n
@@ -172,8 +125,7 @@ whole-reading v good s n h d = let e : whole (v, good) ≡ s = cc in subst (λ x
 open-reading : (good : Bool) (b : Bracket) (p : FlowState) (outer : List (Bracket × FlowState))
     (s : Reading) (n : ℕ) → (let r : Checked Reading = Ok (open_in good b p outer) in r) ≡ Ok s
     → Within (open_in good b p outer) n → Within s n
-open-reading good b p outer s n h d = let e : open_in good b p outer ≡ s = cc in
-    subst (λ x. Within x n) e d
+open-reading good b p outer s n h d = grind arith
 
 into-deep : (v : Value) (good : Bool) (outer : List (Bracket × FlowState)) (s : Reading) (n : ℕ)
     → into (v, good) outer ≡ Ok s → depth v.tree + length outer ≤ n → Levels outer n → Within s n
@@ -199,32 +151,21 @@ moved-deep known line good b p outer m s n h d r =
 step-deep : (known : Anchors) (line : ℕ) (r s : Reading) (m : Token) (n : ℕ)
     → flow_step false known line r m ≡ Ok s → Within r n → reach known (level_of r) m ≤ n
     → Within s n
-step-deep known line (open_in good b p outer) s (opening c) n h d r =
-    let is = follows (may_open p) (Ok (open_in good c (first_place c) ((b, p) ∷ outer))) s h in
-    open-reading good c (first_place c) ((b, p) ∷ outer) s n is
-    (omega (arith, first-deep c, r), (d.0, d.1))
+step-deep known line (open_in good b p outer) s (opening c) n h d r = grind (arith, nat_tests)
 step-deep known line (open_in good b p outer) s (closing c) n h d r =
     let (v, e, i) = bound (closes line p) (λ v. ends_with b (Some c) >> into (v, good) outer) s h in
     let j = follows (ends_with b (Some c)) (into (v, good) outer) s i in
     into-deep v good outer s n j (omega (arith, closes-deep line p v e, d.0)) d.1
-step-deep known line (open_in good b p outer) s comma n h d r =
-    moved-deep known line good b p outer comma s n h d r
-step-deep known line (open_in good b p outer) s colon n h d r =
-    moved-deep known line good b p outer colon s n h d r
+step-deep known line (open_in good b p outer) s comma n h d r = grind (arith, moved-deep)
+step-deep known line (open_in good b p outer) s colon n h d r = grind (arith, moved-deep)
 step-deep known line (open_in good b p outer) s (scalar_token k) n h d r =
     moved-deep known line good b p outer (scalar_token k) s n h d r
-step-deep known line (open_in good b p outer) s (key_token k) n h d r =
-    moved-deep known line good b p outer (key_token k) s n h d r
-step-deep known line (open_in good b p outer) s (cut_key k) n h d r =
-    moved-deep known line good b p outer (cut_key k) s n h d r
-step-deep known line (open_in good b p outer) s (colon_scalar k) n h d r =
-    moved-deep known line good b p outer (colon_scalar k) s n h d r
-step-deep known line (open_in good b p outer) s (alias_token k) n h d r =
-    moved-deep known line good b p outer (alias_token k) s n h d r
-step-deep known line (open_in good b p outer) s late_colon n h d r =
-    moved-deep known line good b p outer late_colon s n h d r
-step-deep known line (open_in good b p outer) s (fault k) n h d r =
-    moved-deep known line good b p outer (fault k) s n h d r
+step-deep known line (open_in good b p outer) s (key_token k) n h d r = grind (arith, moved-deep)
+step-deep known line (open_in good b p outer) s (cut_key k) n h d r = grind (arith, moved-deep)
+step-deep known line (open_in good b p outer) s (colon_scalar k) n h d r = grind (arith, moved-deep)
+step-deep known line (open_in good b p outer) s (alias_token k) n h d r = search (rules, moved-deep)
+step-deep known line (open_in good b p outer) s late_colon n h d r = grind (arith, moved-deep)
+step-deep known line (open_in good b p outer) s (fault k) n h d r = grind (arith, moved-deep)
 step-deep known line (whole v) s (opening c) n h d r = cc
 step-deep known line (whole v) s (closing c) n h d r = cc
 step-deep known line (whole v) s comma n h d r = cc
@@ -237,64 +178,9 @@ step-deep known line (whole v) s (alias_token k) n h d r = cc
 step-deep known line (whole v) s late_colon n h d r = cc
 step-deep known line (whole v) s (fault k) n h d r = cc
 
--- the level behind a token that was read
-into-level : (v : Value) (good : Bool) (outer : List (Bracket × FlowState)) (s : Reading)
-    → into (v, good) outer ≡ Ok s → level_of s ≡ length outer
-into-level v good [] s h = let e : whole (v, good) ≡ s = cc in sym (ap level_of e)
-into-level v good (o ∷ outer) s h =
-    let (q, e, i) = bound (with_value o.1 v)
-    (λ next. let r : Checked Reading = Ok (open_in (good && fits next) o.0 next outer) in r) s
-    h in
-    let e : open_in (good && fits q) o.0 q outer ≡ s = cc in sym (ap level_of e)
-
-moved-level : (known : Anchors) (line : ℕ) (good : Bool) (b : Bracket)
-    (outer : List (Bracket × FlowState)) (m : Checked FlowState) (s : Reading)
-    → moved good b outer m ≡ Ok s
-    → level_of s ≡ suc (length outer)
-moved-level known line good b outer m s h =
-    let (q, e, i) = bound m
-    (λ next. let r : Checked Reading = Ok (open_in (good && fits next) b next outer) in r) s
-    h in
-    let e : open_in (good && fits q) b q outer ≡ s = cc in sym (ap level_of e)
-
 step-level : (known : Anchors) (line : ℕ) (r s : Reading) (m : Token)
     → flow_step false known line r m ≡ Ok s → level_of s ≡ level_behind (level_of r) m
-step-level known line (open_in good b p outer) s (opening c) h =
-    let is = follows (may_open p) (Ok (open_in good c (first_place c) ((b, p) ∷ outer))) s h in
-    let e : open_in good c (first_place c) ((b, p) ∷ outer) ≡ s = cc in sym (ap level_of e)
-step-level known line (open_in good b p outer) s (closing c) h =
-    let (v, e, i) = bound (closes line p) (λ v. ends_with b (Some c) >> into (v, good) outer) s h in
-    omega (
-      arith,
-      into-level v good outer s
-          (follows (ends_with b (Some c)) (into (v, good) outer) s i),
-    )
-step-level known line (open_in good b p outer) s comma h = moved-level known line good b outer _ s h
-step-level known line (open_in good b p outer) s colon h = moved-level known line good b outer _ s h
-step-level known line (open_in good b p outer) s (scalar_token k) h =
-    moved-level known line good b outer _ s h
-step-level known line (open_in good b p outer) s (key_token k) h =
-    moved-level known line good b outer _ s h
-step-level known line (open_in good b p outer) s (cut_key k) h =
-    moved-level known line good b outer _ s h
-step-level known line (open_in good b p outer) s (colon_scalar k) h =
-    moved-level known line good b outer _ s h
-step-level known line (open_in good b p outer) s (alias_token k) h =
-    moved-level known line good b outer _ s h
-step-level known line (open_in good b p outer) s late_colon h = cc
-step-level known line (open_in good b p outer) s (fault k) h =
-    moved-level known line good b outer _ s h
-step-level known line (whole v) s (opening c) h = cc
-step-level known line (whole v) s (closing c) h = cc
-step-level known line (whole v) s comma h = cc
-step-level known line (whole v) s colon h = cc
-step-level known line (whole v) s (scalar_token k) h = cc
-step-level known line (whole v) s (key_token k) h = cc
-step-level known line (whole v) s (cut_key k) h = cc
-step-level known line (whole v) s (colon_scalar k) h = cc
-step-level known line (whole v) s (alias_token k) h = cc
-step-level known line (whole v) s late_colon h = cc
-step-level known line (whole v) s (fault k) h = cc
+step-level known line r s m h = grind arith
 
 steps-deep : (known : Anchors) (line : ℕ) (ms : List Token) (r s : Reading) (n : ℕ)
     → flow_steps false known line r ms ≡ Ok s → Within r n → height known (level_of r) ms ≤ n
@@ -307,14 +193,10 @@ steps-deep known line (m ∷ ms) r s n h d k =
     (omega (arith, k, ap (λ l. height known l ms) (step-level known line r q m e)))
 
 ended-deep : (r : Reading) (v : Value) (n : ℕ) → ended r ≡ Ok v → Within r n → depth v.tree ≤ n
-ended-deep (open_in good b p outer) v n h d = cc
-ended-deep (whole p) v n h d =
-    let e = follows (check p.1 BadMerge) (let r : Checked Value = Ok p.0 in r) v h in
-    let same : p.0 ≡ v = cc in subst (λ (x : Value). depth x.tree ≤ n) same d
+ended-deep r v n h d = grind arith
 
 first-within : (b : Bracket) (n : ℕ) → 1 ≤ n → Within (first_reading b) n
-first-within square n h = (omega (arith, h), tt)
-first-within curly n h = (omega (arith, h), tt)
+first-within b n h = grind arith
 
 pub flow-height : (known : Anchors) (line : ℕ) (b : Bracket) (ms : List Token) (v : Value)
     → flow_value known line b ms ≡ Ok v → depth v.tree ≤ max 1 (height known 1 ms)

@@ -1,18 +1,17 @@
 -- Of two anchors with one name the later one serves, whether the earlier one is kept or not.
-use Rattle.std.proofs.Common.{◌≡◌, ℕ, Bool, true, false, List, [], ◌∷◌, ◌++◌, Some, None, Ok, Err}
+use Rattle.std.proofs.Common.{◌≡◌, ℕ, Bool, List, [], ◌∷◌, ◌++◌, Some, None, Ok, Err}
 use Rattle.std.proofs.Common.{refl}
-use Rattle.std.proofs.Common.{sym, ap, ◌∙◌, subst, append-nil}
+use Rattle.std.proofs.Common.{sym, ap, ◌∙◌, subst, append-nil, arith, rules}
 use Rattle.std.specs.Prelude.{if◌then◌else◌}
-use Rattle.rvs_tree.specs.Value.{Value, scalar_value, map_value, explicit_keys}
+use Rattle.rvs_tree.specs.Value.{Value, scalar_value}
 use Rattle.rvs_yaml_text.specs.Word.{Name, Word, is_below}
 use Rattle.rvs_yaml_text.specs.Word.{opens_block, head_of}
 use Rattle.rvs_yaml.specs.Checks.{Checked, ◌>>=◌, ◌>>◌, check}
-use Rattle.rvs_yaml.specs.Anchors.{Anchors, lookup}
+use Rattle.rvs_yaml.specs.Anchors.{Anchors}
 use Rattle.rvs_yaml.specs.Stack.{has_anchor}
-use Rattle.rvs_yaml.specs.Entry.{written}
-use Rattle.rvs_yaml.specs.Block.{Found, found, named, own_value, item_at, key_at, check_merge}
+use Rattle.rvs_yaml.specs.Block.{Found, found, named, own_value}
 use Rattle.rvs_yaml.specs.Block.{tree_of}
-use Rattle.rvs_yaml.specs.Stack.{Done, done_items, done_entries, alone, Open, begun_done, begun}
+use Rattle.rvs_yaml.specs.Stack.{Done, alone, Open, begun_done, begun}
 use Rattle.rvs_yaml.specs.Stack.{known_of, begins, noted, closed_as, closed}
 use Rattle.rvs_yaml.specs.Stack.{advanced_as, put, advanced, settled, step, steps}
 use Rattle.rvs_yaml.specs.StepParts.{closed_value}
@@ -22,7 +21,6 @@ use Rattle.rvs_yaml.proofs.InOrder as exact
 use Rattle.rvs_yaml.proofs.Alike.{Alike, alike-append, alike-noted, own-alike}
 use Rattle.rvs_yaml.proofs.Outlined.{bind_same, tree_of-steps}
 use Rattle.rvs_yaml.proofs.Fronts.{finished-front}
-use Rattle.rvs_yaml.proofs.Reaching.{then-ok, bind-ok}
 
 -- a block with other anchors
 abbrev holding : Open → Anchors → Open
@@ -63,17 +61,13 @@ alike-same : (a : Anchors) → Alike a a
 alike-same a = λ k. refl
 
 bare-none : (d : Done) → IsBare d []
-bare-none (done_items vs) = tt
-bare-none (done_entries ws k) = tt
-bare-none alone = refl
+bare-none d = grind arith
 
 known-alike : (bs : List Open) (more : List Anchors) → Match bs more
     → Alike (known_of bs) (known_of (redone bs more))
 known-alike [] more m = alike-same []
 known-alike (b ∷ bs) [] m = absurd m
-known-alike (b ∷ bs) (a ∷ more) m =
-    alike-append b.anchors (known_of bs) a (known_of (redone bs more)) m.0
-    (known-alike bs more m.2)
+known-alike (b ∷ bs) (a ∷ more) m = grind (arith, alike-append, (known-alike bs more m.2))
 
 opened-related : (m n : Checked Value) (f g : Value → List Open) → n ≡ m
     → ((v : Value) → (more : List Anchors) × (g v ≡ redone (f v) more) × Match (f v) more)
@@ -81,8 +75,7 @@ opened-related : (m n : Checked Value) (f g : Value → List Open) → n ≡ m
 opened-related (Ok v) n f g e h =
     let (more, is, match) = h v in
     (more, ap (λ r. r >>= λ v. let q : Checked (List Open) = Ok (g v) in q) e ∙ ap Ok is, match)
-opened-related (Err kind) n f g e h =
-    ap (λ r. r >>= λ v. let q : Checked (List Open) = Ok (g v) in q) e
+opened-related (Err kind) n f g e h = grind arith
 
 begins-related : (bs : List Open) (more : List Anchors) (w : Word) → Match bs more
     → Related (begins bs w) (begins (redone bs more) w)
@@ -117,56 +110,34 @@ put-related line column d a c bs more w h b m =
     w.shape))
     (λ own. (c ∷ more, refl, (h, b, m)))
 
-done-same : (d e : Done) → (let r : Checked Done = Ok d in r) ≡ Ok e → d ≡ e
-done-same d e h = cc
-
 -- no block becomes a leaf
 advanced-bare : (d : Done) (column : ℕ) (v : Value) (w : Word) (e : Done) (c : Anchors)
     → advanced_as d column v w ≡ Ok e → IsBare e c
-advanced-bare (done_items vs) column v w e c h =
-    subst (λ x. IsBare x c) (done-same _ e (then-ok (item_at column w) _ e h).1) tt
-advanced-bare (done_entries ws k) column v w e c h =
-    let next = bind-ok (key_at column (explicit_keys (ws ++ written k v ∷ [])) w.column w.shape) _ e
-    (then-ok (check_merge k v) _ e h).1 in
-    subst (λ x. IsBare x c) (done-same _ e next.rest) tt
-advanced-bare alone column v w e c h = cc
+advanced-bare d column v w e c h = grind arith
 
 done-related : (m : Checked Done) (f g : Done → Checked (List Open))
     → ((d : Done) → m ≡ Ok d → Related (f d) (g d)) → Related (m >>= f) (m >>= g)
-done-related (Ok d) f g h = h d refl
-done-related (Err kind) f g h = refl
+done-related m f g h = grind arith
 
 advanced-related : (b : Open) (f : Anchors) (g : Found Value) (a : Anchors) (bs : List Open)
     (more : List Anchors) (w : Word) → Alike b.anchors f → Alike g.anchors a → Match bs more
     → Related (advanced b g bs w) (advanced (holding b f) (found g.value a) (redone bs more) w)
 advanced-related b f g a bs more w h i m =
-    done-related (advanced_as b.done b.column g.value w) _ _ (λ d is.
-    put-related b.line b.column d (g.anchors ++ b.anchors) (a ++ f) bs more w
-    (alike-append g.anchors b.anchors a f i h)
-    (advanced-bare b.done b.column g.value w d (a ++ f) is) m)
+    grind (arith, done-related, put-related, alike-append, advanced-bare)
 
 merged-related : (m : Checked (Unit {0})) (g : Found Value) (a : Anchors) → Alike g.anchors a
     → RelatedFound (m >> Ok g) (m >> Ok (found g.value a))
-merged-related (Ok u) g a h = (a, refl, h)
-merged-related (Err kind) g a h = refl
+merged-related m g a h = grind arith
 
 closed-by : (d : Done) (line : ℕ) (b f : Anchors) (g : Found Value) (a : Anchors) → Alike b f
     → IsBare d f → Alike g.anchors a
     → RelatedFound (exact.closed_as d line b g) (closed_as d line f (found g.value a))
-closed-by (done_items vs) line b f g a h e i =
-    (a ++ f, refl, alike-append g.anchors b a f i h)
-closed-by (done_entries ws k) line b f g a h e i =
-    merged-related (check_merge k g.value)
-    (found (map_value line (ws ++ written k g.value ∷ [])) (g.anchors ++ b)) (a ++ f)
-    (alike-append g.anchors b a f i h)
-closed-by alone line b f g a h e i =
-    (a ++ f, refl, λ k. i k ∙ ap (lookup k) (sym (append-nil a) ∙ sym (ap (λ x. a ++ x) e)))
+closed-by d line b f g a h e i = search (rules, alike-append, merged-related, append-nil)
 
 noted-value : (t : Bool) (n : List ℕ) (v : Value) (a : Anchors)
     → (if t then found v a else found v ((n, v) ∷ a))
     ≡ found v (if t then found v a else found v ((n, v) ∷ a)).anchors
-noted-value true n v a = refl
-noted-value false n v a = refl
+noted-value t n v a = grind arith
 
 noted-related : (name : Name) (g : Found Value) (a : Anchors) → Alike g.anchors a
     → RelatedFound (Ok (named name g)) (Ok (noted name (found g.value a)))
@@ -179,24 +150,17 @@ noted-related (Some n) g a h = (
 
 named-related : (name : Name) (m n : Checked (Found Value)) → RelatedFound m n
     → RelatedFound (m >>= λ h. Ok (named name h)) (n >>= λ h. Ok (noted name h))
-named-related name (Ok g) n (a, is, h) =
-    subst (λ r. RelatedFound (Ok (named name g)) (r >>= λ h. Ok (noted name h))) (sym is)
-    (noted-related name g a h)
-named-related name (Err kind) n e =
-    ap (λ r. r >>= λ h. let q : Checked (Found Value) = Ok (noted name h) in q) e
+named-related name m n e = search (rules, noted-related)
 
 found-related : (m n : Checked (Found Value)) (f g : Found Value → Checked (List Open))
     → RelatedFound m n
     → ((h : Found Value) (a : Anchors) → Alike h.anchors a → Related (f h) (g (found h.value a)))
     → Related (m >>= f) (n >>= g)
-found-related (Ok h) n f g (a, is, i) next =
-    subst (λ r. Related (f h) (r >>= g)) (sym is) (next h a i)
-found-related (Err kind) n f g e next = ap (λ r. r >>= g) e
+found-related m n f g e next = grind arith
 
 either-related : (t : Bool) (m n p q : Checked (List Open)) → Related m p → Related n q
     → Related (if t then m else n) (if t then p else q)
-either-related true m n p q h i = h
-either-related false m n p q h i = i
+either-related t m n p q h i = grind arith
 
 settled-related : (bs : List Open) (more : List Anchors) (b : Open) (f : Anchors)
     (g : Found Value) (a : Anchors) (w : Word) → Match bs more → Alike b.anchors f
@@ -219,8 +183,7 @@ own-related (Some n) v = ((n, v) ∷ [], refl, alike-same ((n, v) ∷ []))
 
 then-related : (c : Checked (Unit {0})) (m n : Checked (List Open)) → Related m n
     → Related (c >> m) (c >> n)
-then-related (Ok u) m n h = h
-then-related (Err kind) m n h = refl
+then-related c m n h = grind arith
 
 step-related : (bs : List Open) (more : List Anchors) (w : Word) → Match bs more
     → Related (exact.step bs w) (step (redone bs more) w)
@@ -261,17 +224,11 @@ ends-redone v (b ∷ bs) (a ∷ more) =
 
 front-redone : (bs : List Open) (more : List Anchors)
     → front_value (redone bs more) ≡ front_value bs
-front-redone [] more = refl
-front-redone (b ∷ bs) [] = refl
-front-redone (b ∷ bs) (a ∷ more) =
-    ends-redone (if opens_block b.head.sort then scalar_value [] b.head.line else b.own) (b ∷ bs)
-    (a ∷ more)
+front-redone bs more = search (rules, ends-redone)
 
 front-related : (m n : Checked (List Open)) → Related m n
     → (m >>= front_value) ≡ (n >>= front_value)
-front-related (Ok bs) n (more, is, i) =
-    sym (ap (λ r. r >>= front_value) is ∙ front-redone bs more)
-front-related (Err kind) n e = sym (ap (λ r. r >>= front_value) e)
+front-related m n e = search (rules, front-redone)
 
 -- THE LAW: the tree of the words is the value of the open blocks behind them
 pub tree-front : (ws : List Word) → tree_of ws ≡ (steps [] ws >>= front_value)

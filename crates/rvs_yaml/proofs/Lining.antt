@@ -1,6 +1,6 @@
 -- The words of a line, one after another.
 use Rattle.std.proofs.Common.{◌≡◌, ℕ, suc, ◌+◌, ◌-◌, ◌≤◌, Bool, true, false, List, [], ◌∷◌, length}
-use Rattle.std.proofs.Common.{Option, Some, None, refl, sym, ap, ◌∙◌, arith}
+use Rattle.std.proofs.Common.{Option, Some, None, refl, sym, ap, ◌∙◌, arith, rules}
 use Rattle.std.specs.Prelude.{◌==◌, ◌&&◌}
 use Rattle.std.proofs.lemmas.Bool.Decides.{nat_tests}
 use Rattle.rvs_yaml_text.specs.Word.{dash}
@@ -16,11 +16,7 @@ space-stop b bs e = rw (e, without_spaces) refl
 
 pub spaces-length : (bs : List ℕ) → length (without_spaces bs) ≤ length bs
 spaces-length [] = omega arith
-spaces-length (b ∷ bs) =
-    elim (b == 32) as (λ t. (b == 32) ≡ t → length (without_spaces (b ∷ bs)) ≤ suc (length bs)) [
-      | true ↦ λ e. omega (arith, ap length (space-on b bs e), spaces-length bs)
-      | false ↦ λ e. omega (arith, ap length (space-stop b bs e))
-    ] refl
+spaces-length (b ∷ bs) = grind (arith, space-on, space-stop, (spaces-length bs))
 
 words-on : (line : ℕ) (item : Bool) (column b : ℕ) (bs : List ℕ) → (b == 32) ≡ true
     → words_at line item column (b ∷ bs) ≡ words_at line item (suc column) bs
@@ -49,36 +45,15 @@ words-spaces line item column (b ∷ bs) =
     ] refl
 
 both : (x y : Bool) → (x && y) ≡ true → x ≡ true
-both true y h = refl
-both false y h = h
-
-dash_no_space : (b : ℕ) → (b == 45) ≡ true → (b == 32) ≡ false
-dash_no_space b h = grind (arith, nat_tests)
-
-dash-at : (line : ℕ) (item : Bool) (column b : ℕ) (bs : List ℕ) → (b == 45 && ends_indicator bs)
-    ≡ true → words_at line item column (b ∷ bs)
-    ≡ word_at line column (dash (item_name bs)) ∷ words_at line true (suc column) bs
-dash-at line item column b bs e =
-    rw (dash_no_space b (both (b == 45) (ends_indicator bs) e), words_at) (rw (e, words_at) refl)
+both x y h = grind arith
 
 pub words-dash : (line : ℕ) (item : Bool) (column : ℕ) (bs behind : List ℕ) → Some behind
     ≡ behind_dash bs → words_at line item column bs
     ≡ word_at line column (dash (item_name behind)) ∷ words_at line true (suc column) behind
-words-dash line item column [] behind h = cc
-words-dash line item column (b ∷ bs) behind h =
-    elim (b == 45 && ends_indicator bs) as (λ t. (b == 45 && ends_indicator bs) ≡ t → Some behind
-    ≡ (elim t as (λ _. Option (List ℕ)) [
-      | true ↦ Some bs
-      | false ↦ None
-    ]) → words_at line item column (b ∷ bs)
-    ≡ word_at line column (dash (item_name behind)) ∷ words_at line true (suc column) behind) [
-      | true ↦ λ e k. let same : behind ≡ bs = cc in rw same (dash-at line item column b bs e)
-      | false ↦ λ e k. cc
-    ] refl h
+words-dash line item column bs behind h = grind arith
 
 rest-nothing : (line : ℕ) (item : Bool) (column : ℕ) → [] ≡ rest_words line item column []
-rest-nothing line true column = refl
-rest-nothing line false column = refl
+rest-nothing line item column = grind arith
 
 rest-at : (line : ℕ) (item : Bool) (column b : ℕ) (bs : List ℕ) → (b == 32) ≡ false
     → (b == 45 && ends_indicator bs) ≡ false
@@ -87,8 +62,7 @@ rest-at line item column b bs e k = rw (e, words_at) (rw (k, words_at) refl)
 
 no_dash : (t : Bool) (bs : List ℕ)
     → None ≡ (elim t as (λ _. Option (List ℕ)) [ true ↦ Some bs | false ↦ None ]) → t ≡ false
-no_dash true bs h = cc
-no_dash false bs h = refl
+no_dash t bs h = grind arith
 
 solid-here : (b : ℕ) (bs : List ℕ) → without_spaces (b ∷ bs) ≡ b ∷ bs → (b == 32) ≡ false
 solid-here b bs h =
@@ -99,37 +73,21 @@ solid-here b bs h =
 
 pub words-rest : (line : ℕ) (item : Bool) (column : ℕ) (bs : List ℕ) → None ≡ behind_dash bs
     → without_spaces bs ≡ bs → words_at line item column bs ≡ rest_words line item column bs
-words-rest line item column [] h s = rest-nothing line item column
-words-rest line item column (b ∷ bs) h s =
-    rest-at line item column b bs (solid-here b bs s) (no_dash (b == 45 && ends_indicator bs) bs h)
+words-rest line item column bs h s = search (rules, rest-nothing, rest-at, solid-here, no_dash)
 
 pub spaces-twice : (bs : List ℕ) → without_spaces (without_spaces bs) ≡ without_spaces bs
 spaces-twice [] = refl
-spaces-twice (b ∷ bs) =
-    elim (b == 32) as (λ t. (b == 32) ≡ t
-    → without_spaces (without_spaces (b ∷ bs)) ≡ without_spaces (b ∷ bs)) [
-      | true ↦ λ e. ap without_spaces (space-on b bs e) ∙ spaces-twice bs ∙ sym (space-on b bs e)
-      | false ↦ λ e. ap without_spaces (space-stop b bs e)
-    ] refl
+spaces-twice (b ∷ bs) = grind (arith, space-on, space-stop, (spaces-twice bs))
 
 blank-on : (b : ℕ) (bs : List ℕ) → (b == 32) ≡ true → is_blank true (b ∷ bs) ≡ is_blank true bs
-blank-on b bs e = let k : (b == 35) ≡ false = grind (arith, nat_tests) in
-    rw (k, is_blank) (rw (e, is_blank) refl)
+blank-on b bs e = grind arith
 
 pub dash_not_blank : (b : ℕ) (bs : List ℕ) → (b == 45) ≡ true → is_blank true (b ∷ bs) ≡ false
-dash_not_blank b bs e =
-    let k : (b == 35) ≡ false = grind (arith, nat_tests) in
-    let s : (b == 32) ≡ false = grind (arith, nat_tests) in
-    let t : (b == 9) ≡ false = grind (arith, nat_tests) in
-    rw (k, is_blank) (rw (s, is_blank) (rw (t, is_blank) refl))
+dash_not_blank b bs e = grind arith
 
 blank_no_dash : (b : ℕ) (bs : List ℕ) → is_blank true (b ∷ bs) ≡ true
     → (b == 45 && ends_indicator bs) ≡ false
-blank_no_dash b bs h =
-    elim (b == 45) as (λ t. (b == 45) ≡ t → (t && ends_indicator bs) ≡ false) [
-      | true ↦ λ e. let never : false ≡ true = sym (dash_not_blank b bs e) ∙ h in cc
-      | false ↦ λ e. refl
-    ] refl
+blank_no_dash b bs h = grind (arith, dash_not_blank)
 
 blank-at : (line column b : ℕ) (bs : List ℕ) → (b == 32) ≡ false
     → (b == 45 && ends_indicator bs) ≡ false → is_blank true (b ∷ bs) ≡ true
@@ -147,16 +105,8 @@ words-blank line column (b ∷ bs) h =
       | false ↦ λ e. blank-at line column b bs e (blank_no_dash b bs h) h
     ] refl
 
-dash-by : (t : Bool) (bs behind : List ℕ)
-    → Some behind ≡ (elim t as (λ _. Option (List ℕ)) [ true ↦ Some bs | false ↦ None ])
-    → behind ≡ bs
-dash-by true bs behind h = cc
-dash-by false bs behind h = cc
-
 dash-length : (bs behind : List ℕ) → Some behind ≡ behind_dash bs → length bs ≡ suc (length behind)
-dash-length [] behind h = cc
-dash-length (b ∷ bs) behind h =
-    ap (λ ys. suc (length ys)) (sym (dash-by (b == 45 && ends_indicator bs) bs behind h))
+dash-length bs behind h = grind arith
 
 -- a dash, and the words behind it from the next character that is no space
 pub words-next : (line : ℕ) (item : Bool) (n : ℕ) (bs behind : List ℕ)
@@ -174,7 +124,4 @@ words-next line item n bs behind h small =
 
 pub words-first : (line : ℕ) (bs : List ℕ) → words_at line false 0 bs
     ≡ words_at line false (length bs - length (without_spaces bs)) (without_spaces bs)
-words-first line bs =
-    let shift : 0 + (length bs - length (without_spaces bs))
-    ≡ length bs - length (without_spaces bs) = omega arith in
-    words-spaces line false 0 bs ∙ ap (λ k. words_at line false k (without_spaces bs)) shift
+words-first line bs = grind (arith, words-spaces)

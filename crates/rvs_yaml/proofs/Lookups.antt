@@ -1,5 +1,5 @@
 -- The stack of the code, block after block.
-use Rattle.std.proofs.Common.{◌≡◌, ℕ, ◌+◌, ◌<◌, List, [], ◌∷◌, ◌++◌, map, reverse, length, take}
+use Rattle.std.proofs.Common.{◌≡◌, ℕ, ◌+◌, ◌<◌, List, [], ◌∷◌, ◌++◌, reverse, length, take}
 use Rattle.std.proofs.Common.{get_or, ap, ◌∙◌}
 use Rattle.std.proofs.lemmas.List.{take_more, reverse-append}
 use Rattle.rvs_yaml.specs.StackView.{open_view, stack_view}
@@ -11,8 +11,7 @@ reverse-push xs x = reverse-append xs (x ∷ [])
 
 pub stack-push : (bs : List Open) (b : Open)
     → stack_view (bs ++ b ∷ []) ≡ open_view b ∷ stack_view bs
-stack-push bs b =
-    ap reverse (map-append open_view bs (b ∷ [])) ∙ reverse-push (map open_view bs) (open_view b)
+stack-push bs b = simp (map-append, reverse-push)
 
 pub stack-more : (bs : List Open) (i : ℕ) (b : Open) → i < length bs
     → stack_view (take (i + 1) bs) ≡ open_view (get_or bs i b) ∷ stack_view (take i bs)

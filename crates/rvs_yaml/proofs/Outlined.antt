@@ -1,10 +1,9 @@
 -- The stack reads the tree of the words.
-use Rattle.std.proofs.Common.{◌≡◌, ℕ, Bool, true, false, cond, List, [], ◌∷◌, ◌++◌, Ok, Err, refl}
-use Rattle.std.proofs.Common.{sym, ap, ◌∙◌, append_assoc, append-nil}
-use Rattle.std.specs.Prelude.{if◌then◌else◌}
+use Rattle.std.proofs.Common.{◌≡◌, ℕ, Bool, true, false, cond, List, [], ◌∷◌, ◌++◌, Ok, refl}
+use Rattle.std.proofs.Common.{sym, ap, ◌∙◌, append_assoc, append-nil, arith, rules}
 use Rattle.rvs_tree.specs.Value.{Value, scalar_value, list_value, map_value, Written, explicit_keys}
 use Rattle.rvs_yaml.specs.Checks.{Checked, ◌>>=◌, ◌>>◌, check}
-use Rattle.rvs_yaml_text.specs.Word.{is_below, Key, Name, Shape, dash, key, leaf, refused, Word}
+use Rattle.rvs_yaml_text.specs.Word.{is_below, Key, Name, Shape, dash, key, Word}
 use Rattle.rvs_yaml_text.specs.Word.{head_of, opens_block}
 use Rattle.rvs_yaml.specs.Block.{Found, found, named, own_value, value_over, value_of, only_leaf}
 use Rattle.rvs_yaml.specs.Block.{item_at, key_at, spelled, check_merge, Outline, end, below}
@@ -19,22 +18,18 @@ use Rattle.rvs_yaml_text.specs.declared.kind.YamlKind.TheVariants.{Unsupported}
 
 pub bind_assoc : {A B C : Type 0} (m : Checked A) (f : A → Checked B) (g : B → Checked C)
     → ((m >>= f) >>= g) ≡ (m >>= (λ x. f x >>= g))
-bind_assoc (Ok x) f g = refl
-bind_assoc (Err e) f g = refl
+bind_assoc = grind arith
 
 pub then_assoc : {A B C : Type 0} (m : Checked A) (n : Checked B) (g : B → Checked C)
     → ((m >> n) >>= g) ≡ (m >> (n >>= g))
-then_assoc (Ok x) n g = refl
-then_assoc (Err e) n g = refl
+then_assoc = grind arith
 
 pub bind_same : {A B : Type 0} (m : Checked A) (f g : A → Checked B) → ((x : A) → f x ≡ g x)
     → (m >>= f) ≡ (m >>= g)
-bind_same (Ok x) f g h = h x
-bind_same (Err e) f g h = refl
+bind_same h = grind arith
 
 pub then_same : {A B : Type 0} (m : Checked A) (f g : Checked B) → f ≡ g → (m >> f) ≡ (m >> g)
-then_same (Ok x) f g h = h
-then_same (Err e) f g h = refl
+then_same h = grind arith
 
 -- The members of a block with more words: its open member is g, and these anchors are in the
 -- members before that.
@@ -75,10 +70,7 @@ whole_as : (s : Shape) (w : Word) (known : Anchors) (rest : Outline) (g : Found 
           (found (map_value w.line (written k g.value ∷ m.value)) (m.anchors ++ g.anchors)))
       | _ ↦ only_leaf rest >> Ok g
     ]) ≡ members_as (begun_done s) w.line w.column [] known g rest
-whole_as (dash a) w known rest g = rw (append-nil g.anchors) refl
-whole_as (key k a content) w known rest g = rw (append-nil g.anchors) refl
-whole_as (leaf content) w known rest g = refl
-whole_as (refused kind) w known rest g = refl
+whole_as s w known rest g = search rules
 
 block-below : (known : Anchors) (line : ℕ) (w : Word) (inner rest : Outline) →
     block known line (below w inner rest)
@@ -92,9 +84,7 @@ block-below known line w inner rest =
 pub explicit_keys-push : (ws : List Written) (k : Key) (v : Value)
     → explicit_keys (ws ++ written k v ∷ []) ≡ explicit_keys ws ++ spelled k
 explicit_keys-push [] k v = append-nil (spelled k)
-explicit_keys-push (w ∷ ws) k v =
-    ap (λ ks. (if w.merges then [] else w.key ∷ []) ++ ks) (explicit_keys-push ws k v)
-    ∙ sym (append_assoc (if w.merges then [] else w.key ∷ []) (explicit_keys ws) (spelled k))
+explicit_keys-push (w ∷ ws) k v = simp (append_assoc, (explicit_keys-push ws k v))
 
 -- the items behind one, and those behind that
 next-items : (vs : List Value) (line column : ℕ) (A known : Anchors) (v : Value) (e : Found Value)
@@ -102,15 +92,7 @@ next-items : (vs : List Value) (line column : ℕ) (A known : Anchors) (v : Valu
     (items (e.anchors ++ (A ++ known)) column rest >>= λ os. Ok
     (found (list_value line (vs ++ v ∷ e.value ∷ os.value)) ((os.anchors ++ e.anchors) ++ A)))
     ≡ members_as (done_items (vs ++ v ∷ [])) line column A known e rest
-next-items vs line column A known v e rest =
-    ap (λ k. items k column rest >>= λ os. Ok
-    (found (list_value line (vs ++ v ∷ e.value ∷ os.value)) ((os.anchors ++ e.anchors) ++ A)))
-    (sym (append_assoc e.anchors A known))
-    ∙ bind_same (items ((e.anchors ++ A) ++ known) column rest) _ _ (λ os. ap
-    (λ l. Ok (found (list_value line l) ((os.anchors ++ e.anchors) ++ A)))
-    (sym (append_assoc vs (v ∷ []) (e.value ∷ os.value))) ∙ ap
-    (λ l. Ok (found (list_value line ((vs ++ v ∷ []) ++ e.value ∷ os.value)) l))
-    (append_assoc os.anchors e.anchors A))
+next-items vs line column A known v e rest = simp (append_assoc, bind_same)
 
 next-entries : (ws : List Written) (line column : ℕ) (A known : Anchors) (k l : Key) (v : Value)
     (e : Found Value) (rest : Outline) →
@@ -120,19 +102,7 @@ next-entries : (ws : List Written) (line column : ℕ) (A known : Anchors) (k l 
     ((os.anchors ++ e.anchors) ++ A))))
     ≡ members_as (done_entries (ws ++ written k v ∷ []) l) line column A known e rest
 next-entries ws line column A known k l v e rest =
-    then_same (check_merge l e.value) _ _ (
-    ap (λ known2. entries known2 column ((explicit_keys ws ++ spelled k) ++ spelled l) rest
-    >>= λ os. Ok (found (map_value line (ws ++ written k v ∷ written l e.value ∷ os.value))
-    ((os.anchors ++ e.anchors) ++ A))) (sym (append_assoc e.anchors A known))
-    ∙ ap (λ seen. entries ((e.anchors ++ A) ++ known) column (seen ++ spelled l) rest >>= λ os. Ok
-    (found (map_value line (ws ++ written k v ∷ written l e.value ∷ os.value))
-    ((os.anchors ++ e.anchors) ++ A))) (sym (explicit_keys-push ws k v))
-    ∙ bind_same (entries ((e.anchors ++ A) ++ known) column (explicit_keys (ws ++ written k v ∷ [])
-    ++ spelled l) rest) _ _ (λ os. ap (λ m. Ok
-    (found (map_value line m) ((os.anchors ++ e.anchors) ++ A))) (sym
-    (append_assoc ws (written k v ∷ []) (written l e.value ∷ os.value))) ∙ ap (λ m. Ok
-    (found (map_value line ((ws ++ written k v ∷ []) ++ written l e.value ∷ os.value)) m))
-    (append_assoc os.anchors e.anchors A)))
+    simp (then_same, append_assoc, explicit_keys-push, bind_same)
 
 -- the next word of a block
 advance-members : (dn : Done) (line column : ℕ) (anchors known : Anchors) (g : Found Value)
@@ -177,9 +147,7 @@ advance-members alone line column anchors known g w inner rest = refl
 
 members-end : (dn : Done) (line column : ℕ) (anchors known : Anchors) (g : Found Value)
     → members_as dn line column anchors known g end ≡ closed_as dn line anchors g
-members-end (done_items vs) line column anchors known g = refl
-members-end (done_entries ws k) line column anchors known g = refl
-members-end alone line column anchors known g = refl
+members-end dn line column anchors known g = grind arith
 
 abbrev moved : Open → Found Value → Done → Word → Value → Open
 moved b g dn w own = record {
@@ -200,15 +168,7 @@ advance-resumed : (g : Found Value) (b : Open) (bs : List Open) (w : Word) (o in
     value_over own (head_of w) (children (head_of w) o)
     (block ((g.anchors ++ b.anchors) ++ known_of bs) w.line (children (head_of w) o)) >>= λ e.
     members (moved b g dn w own) bs e inside >>= go)
-advance-resumed g b bs w o inside go =
-    let known = (g.anchors ++ b.anchors) ++ known_of bs in
-    ap (λ m. m >>= go) (advance-members b.done b.line b.column b.anchors (known_of bs) g w
-    (children (head_of w) o) inside)
-    ∙ bind_assoc (advanced_as b.done b.column g.value w) _ _
-    ∙ bind_same (advanced_as b.done b.column g.value w) _ _
-    (λ dn. bind_assoc (own_value known w.line w.shape) _ _
-    ∙ bind_same (own_value known w.line w.shape) _ _ (λ own. bind_assoc (value_over own (head_of w)
-    (children (head_of w) o) (block known w.line (children (head_of w) o))) _ _))
+advance-resumed g b bs w o inside go = simp (advance-members, bind_assoc, bind_same)
 
 advanced-then : (g : Found Value) (b : Open) (bs : List Open) (w : Word)
     (go : List Open → Checked (Found Value)) →
@@ -216,17 +176,12 @@ advanced-then : (g : Found Value) (b : Open) (bs : List Open) (w : Word)
     ≡ (advanced_as b.done b.column g.value w
     >>= λ dn. own_value ((g.anchors ++ b.anchors) ++ known_of bs) w.line w.shape
     >>= λ own. go (moved b g dn w own ∷ bs))
-advanced-then g b bs w go =
-    bind_assoc (advanced_as b.done b.column g.value w) _ _
-    ∙ bind_same (advanced_as b.done b.column g.value w) _ _
-    (λ dn. bind_assoc (own_value ((g.anchors ++ b.anchors) ++ known_of bs) w.line w.shape) _ _)
+advanced-then g b bs w go = simp (bind_assoc, bind_same)
 
 settle-step : (g : Found Value) (b : Open) (bs : List Open) (w : Word) (o : Outline) →
     resumed_value g b bs (below w (children (head_of w) o) (after (head_of w) o))
     ≡ (settled g b bs w >>= λ cs. resumed cs o)
-settle-step g b [] w o =
-    advance-members b.done b.line b.column b.anchors [] g w (children (head_of w) o)
-    (after (head_of w) o) ∙ sym (advanced-then g b [] w (λ cs. resumed cs o))
+settle-step g b [] w o = simp (advance-members, advanced-then)
 settle-step g b (outer ∷ bs) w o =
     elim (is_below outer.head w) as (λ v. is_below outer.head w ≡ v
     → resumed_value g b (outer ∷ bs) (below w (children (head_of w) o) (after (head_of w) o))
@@ -246,8 +201,7 @@ settle-step g b (outer ∷ bs) w o =
 over-end : (t : Bool) (a : Name) (empty own : Value) →
     cond t (let r : Checked (Found Value) = Ok (named a (found empty [])) in r)
     (Ok (named a (found own []))) ≡ Ok (named a (found (cond t empty own) []))
-over-end true a empty own = refl
-over-end false a empty own = refl
+over-end t a empty own = grind arith
 
 -- a word below a word that opens no block, and one below a word that does
 below-step : (t : Bool) (b : Open) (bs : List Open) (w : Word) (o : Outline) →
@@ -273,8 +227,7 @@ below-step false b bs w o = refl
 step-resumed : (bs : List Open) (w : Word) (o : Outline)
     → resumed bs (below w (children (head_of w) o) (after (head_of w) o))
     ≡ (step bs w >>= λ cs. resumed cs o)
-step-resumed [] w o = block-below [] 1 w (children (head_of w) o) (after (head_of w) o)
-    ∙ sym (bind_assoc (own_value [] w.line w.shape) _ _)
+step-resumed [] w o = simp (block-below, bind_assoc)
 step-resumed (b ∷ bs) w o =
     elim (is_below b.head w) as (λ v. is_below b.head w ≡ v
     → resumed (b ∷ bs) (below w (children (head_of w) o) (after (head_of w) o))
@@ -296,11 +249,7 @@ resumed_value-end g b (outer ∷ bs) =
     ∙ sym (bind_assoc (closed b g) _ _)
 
 resumed-end : (bs : List Open) → resumed bs end ≡ finished bs
-resumed-end [] = refl
-resumed-end (b ∷ bs) =
-    ap (λ m. m >>= λ g. resumed_value g b bs end)
-    (over-end (opens_block b.head.sort) b.head.anchor (scalar_value [] b.head.line) b.own)
-    ∙ resumed_value-end (own_found b) b bs
+resumed-end bs = search (rules, over-end, resumed_value-end, own_found)
 
 -- The stack, and then the words that are left, read what the outline gives.
 pub steps-resumed : (ws : List Word) (bs : List Open)

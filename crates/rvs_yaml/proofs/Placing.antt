@@ -1,12 +1,13 @@
 -- Finding anchors by the places of their names.
 use Rattle.std.proofs.Common.{◌≡◌, ◌≤◌, take, drop, ℕ, suc, ◌+◌, ◌<◌, Bool, true, false, cond, List}
-use Rattle.std.proofs.Common.{[], ◌∷◌, ◌++◌}
+use Rattle.std.proofs.Common.{[], ◌∷◌, ◌++◌, rules}
 use Rattle.std.proofs.Common.{map, reverse, length, get_or, Option, Some, None, refl, sym, ap}
 use Rattle.std.proofs.Common.{subst, ◌∙◌, arith, append_assoc, append-nil, add-zero, length-append}
 use Rattle.std.specs.Prelude.{bytes_eq, if◌then◌else◌, ◌||◌}
 use Rattle.std.proofs.lemmas.List.{reverse-append, length-map, map-append, take-append-drop}
 use Rattle.std.proofs.lemmas.List.{length-take}
 use Rattle.std.proofs.Math.Seq.{get_or-append_seam}
+use Rattle.std.proofs.lemmas.Bool.{or_parts}
 use Rattle.rvs_tree.specs.Value.{Value}
 use Rattle.rvs_yaml.specs.Anchors.{Anchors, lookup}
 use Rattle.rvs_yaml.specs.Stack.{has_anchor}
@@ -23,10 +24,7 @@ pub place-push : (k : List ℕ) (i : ℕ) (before : Option ℕ) (ns : List (List
     ≡ (if bytes_eq n k then Some (i + length ns) else place_from k i before ns)
 place-push k i before [] n = rw add-zero refl
 place-push k i before (m ∷ ns) n =
-    let next : suc i + length ns ≡ i + suc (length ns) = omega arith in
-    place-push k (suc i) (if bytes_eq m k then Some i else before) ns n
-    ∙ ap (λ p. if bytes_eq n k then Some p else place_from k (suc i)
-    (if bytes_eq m k then Some i else before) ns) next
+    grind (arith, (place-push k (suc i) (if bytes_eq m k then Some i else before) ns n))
 
 abbrev IsBelow : ℕ → Option ℕ → Type 0
 IsBelow n None = Unit {0}
@@ -34,9 +32,7 @@ IsBelow n (Some p) = p < n
 
 here-below : (t : Bool) (i : ℕ) (before : Option ℕ) → IsBelow i before
     → IsBelow (suc i) (cond t (Some i) before)
-here-below true i before h = omega arith
-here-below false i None h = tt
-here-below false i (Some p) h = omega (arith, h)
+here-below t i before h = grind arith
 
 place-below : (k : List ℕ) (i : ℕ) (before : Option ℕ) (ns : List (List ℕ)) → IsBelow i before
     → IsBelow (i + length ns) (place_from k i before ns)
@@ -48,26 +44,17 @@ place-below k i before (n ∷ ns) h =
     (here-below (bytes_eq n k) i before h))
 
 last-below : (k : List ℕ) (ns : List (List ℕ)) (p : ℕ) → last_place k ns ≡ Some p → p < length ns
-last-below k ns p e =
-    let h : p < 0 + length ns = subst (IsBelow (0 + length ns)) e (place-below k 0 None ns tt) in
-    omega (arith, h)
+last-below k ns p e = grind (arith, place-below)
 
 pub place-inside : (k : List ℕ) (list : List Anchor) (p : ℕ) → last_place k (names_of list) ≡ Some p
     → p < length list
-place-inside k list p e =
-    omega (arith, last-below k (names_of list) p e, length-map list (λ (a : Anchor). a.name.now))
+place-inside k list p e = grind (arith, last-below, length-map)
 
 -- the last places, once there is one anchor more
 pub last_place-push : (k : List ℕ) (list : List Anchor) (a : Anchor) (n : ℕ) (o : Option ℕ)
     → n ≡ length list → o ≡ last_place k (names_of list) →
     (if bytes_eq a.name.now k then Some n else o) ≡ last_place k (names_of (list ++ a ∷ []))
-last_place-push k list a n o e h =
-    let here : n ≡ 0 + length (names_of list) =
-    omega (arith, e, length-map list (λ (b : Anchor). b.name.now)) in
-    ap (λ p. if bytes_eq a.name.now k then Some p else o) here
-    ∙ ap (λ q. if bytes_eq a.name.now k then Some (0 + length (names_of list)) else q) h
-    ∙ sym (place-push k 0 None (names_of list) a.name.now)
-    ∙ sym (ap (last_place k) (map-append (λ (b : Anchor). b.name.now) list (a ∷ [])))
+last_place-push k list a n o e h = grind (arith, length-map, place-push, map-append)
 
 abbrev value_at : Anchor → List Anchor → Option ℕ → Option Value
 value_at d all None = None
@@ -77,9 +64,7 @@ found-here : (t : Bool) (d a : Anchor) (front list : List Anchor) (before : Opti
     (o : Option Value) → o ≡ value_at d (front ++ a ∷ list) before →
     cond t (Some (value_view a.value)) o
     ≡ value_at d (front ++ a ∷ list) (cond t (Some (length front)) before)
-found-here true d a front list before o h =
-    ap (λ (x : Anchor). Some (value_view x.value)) (sym (get_or-append_seam front a list d))
-found-here false d a front list before o h = h
+found-here t d a front list before o h = search (rules, get_or-append_seam)
 
 found-from : (k : List ℕ) (d : Anchor) (front list : List Anchor) (before : Option ℕ)
     (rest : Anchors) → lookup k rest ≡ value_at d (front ++ list) before →
@@ -123,19 +108,10 @@ named-in k (n ∷ ns) = bytes_eq n k || named-in k ns
 has-append : (k : List ℕ) (xs ys : Anchors)
     → has_anchor k (xs ++ ys) ≡ (has_anchor k xs || has_anchor k ys)
 has-append k [] ys = refl
-has-append k (x ∷ xs) ys =
-    ap (λ b. bytes_eq x.0 k || b) (has-append k xs ys)
-    ∙ or-nested (bytes_eq x.0 k) (has_anchor k xs) (has_anchor k ys)
-  where
-    or-nested : (x y z : Bool) → (x || (y || z)) ≡ ((x || y) || z)
-    or-nested true y z = refl
-    or-nested false y z = refl
+has-append k (x ∷ xs) ys = grind (arith, (has-append k xs ys))
 
 or-swap : (x y : Bool) → (x || (y || false)) ≡ (y || x)
-or-swap true true = refl
-or-swap true false = refl
-or-swap false true = refl
-or-swap false false = refl
+or-swap x y = grind arith
 
 has-names : (k : List ℕ) (list : List Anchor)
     → has_anchor k (anchors_view list) ≡ named-in k (names_of list)
@@ -155,15 +131,11 @@ place-append k i before (m ∷ ms) ns =
     place-append k (suc i) now ms ns
     ∙ ap (λ j. place_from k j (place_from k (suc i) now ms) ns) next
 
-both-false : (x y : Bool) → (x || y) ≡ false → (x ≡ false) × (y ≡ false)
-both-false true y e = cc
-both-false false y e = (refl, e)
-
 place-kept : (k : List ℕ) (i : ℕ) (before : Option ℕ) (ns : List (List ℕ)) → named-in k ns ≡ false
     → place_from k i before ns ≡ before
 place-kept k i before [] e = refl
 place-kept k i before (n ∷ ns) e =
-    let both = both-false (bytes_eq n k) (named-in k ns) e in
+    let both = or_parts (bytes_eq n k) (named-in k ns) e in
     place-kept k (suc i) (if bytes_eq n k then Some i else before) ns both.1
     ∙ ap (λ b. if b then Some i else before) both.0
 
@@ -173,8 +145,7 @@ IsAbove n (Some p) = n ≤ p
 
 above-by : (t : Bool) (n i : ℕ) (before : Option ℕ) → n ≤ i → IsAbove n before
     → IsAbove n (cond t (Some i) before)
-above-by true n i before h k = h
-above-by false n i before h k = k
+above-by t n i before h k = grind arith
 
 place-above : (k : List ℕ) (n i : ℕ) (before : Option ℕ) (ns : List (List ℕ)) → n ≤ i
     → IsAbove n before → IsAbove n (place_from k i before ns)
@@ -184,15 +155,12 @@ place-above k n i before (m ∷ ns) h a =
     (above-by (bytes_eq m k) n i before h a)
 
 lower : (n : ℕ) (o : Option ℕ) → IsAbove (suc n) o → IsAbove n o
-lower n None a = a
-lower n (Some p) a = omega (arith, a)
+lower n o a = grind arith
 
 found-by-name : (t u : Bool) (k : List ℕ) (i : ℕ) (before : Option ℕ) (ns : List (List ℕ))
     → (t || u) ≡ true → (u ≡ true → (b : Option ℕ) → IsAbove (suc i) (place_from k (suc i) b ns))
     → IsAbove i (place_from k (suc i) (cond t (Some i) before) ns)
-found-by-name true u k i before ns e h =
-    place-above k i (suc i) (Some i) ns (omega arith) (omega arith)
-found-by-name false u k i before ns e h = lower i (place_from k (suc i) before ns) (h e before)
+found-by-name t u k i before ns e h = search (rules, place-above, lower)
 
 place-found : (k : List ℕ) (i : ℕ) (before : Option ℕ) (ns : List (List ℕ))
     → named-in k ns ≡ true → IsAbove i (place_from k i before ns)

@@ -1,13 +1,12 @@
 -- What was not too deep before a line is not too deep behind it, save for what the line's last word
 -- has brought.
+use Rattle.std.proofs.lemmas.Bool.Decides.{nat_tests}
 use Rattle.std.proofs.Common.{◌≡◌, ℕ, suc, ◌+◌, ◌-◌, ◌≤◌, max, Bool, true, false, cond, List, []}
-use Rattle.std.proofs.Common.{◌∷◌, ◌++◌, Ok, Err, refl, sym, ap, ◌∙◌, subst, arith}
-use Rattle.std.specs.Prelude.{◌||◌, ◌==◌, not, nat_lt}
+use Rattle.std.proofs.Common.{◌∷◌, ◌++◌, Ok, refl, sym, ap, ◌∙◌, subst, arith, rules}
+use Rattle.std.specs.Prelude.{◌||◌, not}
 use Rattle.rvs_tree.specs.Data.{Data, depth}
 use Rattle.rvs_tree.specs.Value.{Value, Written, scalar_value, list_value, map_value, has_key}
 use Rattle.rvs_tree.specs.Value.{explicit_keys, resolved, keys_of, pairs_in, merged_pairs, trees}
-use Rattle.rvs_tree.specs.Bound.{pairs_depth}
-use Rattle.rvs_tree.specs.Sifted.{sift}
 use Rattle.rvs_tree.specs.Shown.{Shown, shown_by, at_key, keys_so_far, left_by}
 use Rattle.rvs_tree.proofs.Sums.{merged_shallower}
 use Rattle.rvs_tree.proofs.Growing.{sift-less}
@@ -22,29 +21,24 @@ use Rattle.rvs_yaml.specs.Entry.{written}
 use Rattle.rvs_yaml.specs.Parsed.{within_limits}
 use Rattle.rvs_yaml.specs.Block.{Found, no_place, item_at, key_at, check_merge}
 use Rattle.rvs_yaml.specs.Block as block_spec
-use Rattle.rvs_yaml.specs.Stack.{noted}
 use Rattle.rvs_yaml.specs.Stack.{Done, done_items, done_entries, alone, Open, begun_done, begun}
-use Rattle.rvs_yaml.specs.Stack.{begins, own_found, closed, closed_into, advanced_as, put, advanced}
+use Rattle.rvs_yaml.specs.Stack.{begins, own_found, closed_into, advanced_as, put, advanced}
 use Rattle.rvs_yaml.specs.Stack.{settled, step, steps, known_of}
 use Rattle.rvs_yaml.specs.StepParts.{closed_value}
 use Rattle.rvs_yaml.specs.Front.{own_value, ends, front_value, checked_front}
 use Rattle.rvs_yaml.specs.Reach.{level, levels, reach, passed, deepened, seen, sight, KeepsDepth}
-use Rattle.rvs_yaml.proofs.Fronts.{closed-value, noted-value, own-value, value_of}
-use Rattle.rvs_yaml.proofs.Sketching.{ge_fact}
+use Rattle.rvs_yaml.proofs.Fronts.{own-value}
 use Rattle.rvs_yaml_text.specs.declared.kind.YamlKind.{YamlKind}
-use Rattle.rvs_yaml_text.specs.declared.kind.YamlKind.TheVariants.{TooDeep, Unsupported, BadIndent}
-use Rattle.rvs_yaml_text.specs.declared.kind.YamlKind.TheVariants.{DuplicateKey}
+use Rattle.rvs_yaml_text.specs.declared.kind.YamlKind.TheVariants.{Unsupported}
 
 -- checks that hold
 gone : {A B : Type 0} (c : Checked (Unit {0})) (r : Checked A) (f : A → Checked B) (y : B)
     → ((c >> r) >>= f) ≡ Ok y → (c ≡ Ok tt) × ((r >>= f) ≡ Ok y)
-gone (Ok u) r f y h = (refl, h)
-gone (Err k) r f y h = cc
+gone h = grind arith
 
 pub then-ok : {B : Type 0} (c : Checked (Unit {0})) (r : Checked B) (y : B) → (c >> r) ≡ Ok y
     → (c ≡ Ok tt) × (r ≡ Ok y)
-then-ok (Ok u) r y h = (refl, h)
-then-ok (Err k) r y h = cc
+then-ok h = grind arith
 
 pub record Has {A B : Type 0} (m : Checked A) (f : A → Checked B) (y : B) : Type 0 where
   pub value : A
@@ -53,12 +47,7 @@ pub record Has {A B : Type 0} (m : Checked A) (f : A → Checked B) (y : B) : Ty
 
 pub bind-ok : {A B : Type 0} (m : Checked A) (f : A → Checked B) (y : B) → (m >>= f) ≡ Ok y
     → Has m f y
-bind-ok (Ok x) f y h = record { value = x; is = refl; rest = h }
-bind-ok (Err k) f y h = cc
-
-check-true : (b : Bool) (kind : YamlKind) → check b kind ≡ Ok tt → b ≡ true
-check-true true kind h = refl
-check-true false kind h = cc
+bind-ok h = grind arith
 
 -- IN AN OPEN BLOCK
 entry-by : (m : Bool) (f : Shown) (n line : ℕ) (ws : List Written) (k : Key) (u v : Value)
@@ -67,8 +56,7 @@ entry-by : (m : Bool) (f : Shown) (n line : ℕ) (ws : List Written) (k : Key) (
     (cond m (suc (f (keys_so_far ws))) (suc n)) (map_value line (ws ++ written k u ∷ [])).tree
     (map_value line (ws ++ written k v ∷ [])).tree
 entry-by true f n line ws k u v e h = within-merge f n line ws (written k u) (written k v) e e h
-entry-by false f n line ws k u v e h =
-    within-entry f n line ws (written k u) (written k v) e e refl h
+entry-by false f n line ws k u v e h = search (rules, within-entry)
 
 abbrev Next : List Open → Value → Value → Type 0
 Next bs a b = (f : Shown) (m : ℕ) (x y : Value) → Within f m x.tree y.tree → ends x bs ≡ Ok a
@@ -96,9 +84,7 @@ same-ok u a e = cc
 
 ends-within : (bs : List Open) (f : Shown) (n : ℕ) (u v a b : Value) → Within f n u.tree v.tree
     → ends u bs ≡ Ok a → ends v bs ≡ Ok b → depth b.tree ≤ max (depth a.tree) (seen f n bs)
-ends-within [] f n u v a b h e g =
-    let deep : Value → ℕ = λ x. depth x.tree in
-    omega (arith, h.deep, ap deep (same-ok u a e), ap deep (same-ok v b g))
+ends-within [] f n u v a b h e g = grind (arith, same-ok)
 ends-within (o ∷ bs) f n u v a b h e g =
     closed-within o.done o.line f n u v bs a b h e g
     (λ i m x y j k l. ends-within bs i m x y a b j k l)
@@ -148,17 +134,10 @@ more-by true line f n ws l v x u rest e new small g h =
     (map_value line (ws ++ written l x ∷ [])) v u
     (within-merge-more f n line ws (written l x) e small) g h
 more-by false line f n ws l v x u rest e new small g h =
-    ends-within rest (at_key l.name n) (suc n) (map_value line ws)
-    (map_value line (ws ++ written l x ∷ [])) v u
-    (within-own-more n line ws (written l x) e (new refl) small.deep) g h
+    search (rules, ends-within, within-own-more)
 
 new-by : (m h : Bool) → (m || not h) ≡ true → m ≡ false → h ≡ false
-new-by true h e f = cc
-new-by false true e f = cc
-new-by false false e f = refl
-
-same-key : (k l : Key) → (let r : Checked Key = Ok k in r) ≡ Ok l → k ≡ l
-same-key k l h = cc
+new-by m h e f = grind arith
 
 same-done : (d e : Done) → (let r : Checked Done = Ok d in r) ≡ Ok e → d ≡ e
 same-done d e h = cc
@@ -166,35 +145,17 @@ same-done d e h = cc
 same-stack : (bs cs : List Open) → (let r : Checked (List Open) = Ok bs in r) ≡ Ok cs → bs ≡ cs
 same-stack bs cs h = cc
 
-same-found : (g h : Found Value) → (let r : Checked (Found Value) = Ok g in r) ≡ Ok h → g ≡ h
-same-found g h e = cc
-
 -- the key of a word that is the next entry is new, or merges
 next-key : (column : ℕ) (seen : List (List ℕ)) (at : ℕ) (s : Shape) (l : Key)
     → key_at column seen at s ≡ Ok l → l.merges ≡ false → has_key l.name seen ≡ false
-next-key column seen at (dash a) l h e = cc
-next-key column seen at (key k a content) l h e =
-    let first = then-ok (check (at == column) BadIndent) _ l h in
-    let second = then-ok (check (k.merges || not (has_key k.name seen)) DuplicateKey) _ l first.1 in
-    let same : k ≡ l = same-key k l second.1 in
-    subst (λ j. has_key j.name seen ≡ false) same (new-by k.merges (has_key k.name seen)
-    (check-true _ DuplicateKey second.0) (ap (λ j. j.merges) same ∙ e))
-next-key column seen at (leaf content) l h e = cc
-next-key column seen at (refused kind) l h e = cc
+next-key column seen at s l h e = grind arith
 
 done-grown : (d : Done) (line column : ℕ) (g v : Value) (w : Word) (e : Done) (top : Open)
     (rest : List Open) → top.done ≡ e → top.line ≡ line →
     (closed_value d line g >>= λ y. ends y rest) ≡ Ok v → advanced_as d column g w ≡ Ok e
     → Grown v (top ∷ rest)
 done-grown (done_items vs) line column g v w e top rest is at f h x q n u small k =
-    let parts = then-ok (item_at column w) _ e h in
-    let same : done_items (vs ++ g ∷ []) ≡ e = same-done _ _ parts.1 in
-    let here : top.done ≡ done_items (vs ++ g ∷ []) = is ∙ sym same in
-    let there = subst (λ dn. (closed_value dn top.line x >>= λ y. ends y rest) ≡ Ok u) here k in
-    let line-there =
-    subst (λ m. ends (list_value m ((vs ++ g ∷ []) ++ x ∷ [])) rest ≡ Ok u) at there in
-    let bound = item-grown line q n vs g v x u rest f small line-there in
-    omega (arith, bound, ap (λ d. seen (passed d n q) (deepened d q n) rest) here)
+    grind (arith, then-ok, same-done, item-grown)
 done-grown (done_entries ws j) line column g v w e top rest is at f h x q n u small k =
     let parts = then-ok (check_merge j g) _ e h in
     let us = ws ++ written j g ∷ [] in
@@ -235,14 +196,7 @@ advanced-stepped b g v bs w cs e h =
 closes-same : (b : Open) (g : Found Value) (name : Name) (k : Found Value) (v : Value)
     (bs : List Open) → closed_into b g name ≡ Ok k → ends g.value (b ∷ bs) ≡ Ok v → ends k.value bs
     ≡ Ok v
-closes-same b g name k v bs c e =
-    let d =
-    bind-ok (closed b g) (λ j. let r : Checked (Found Value) = Ok (noted name j) in r) k c in
-    let whole : closed_value b.done b.line g.value ≡ Ok d.value.value =
-    sym (closed-value b.done b.line b.anchors g) ∙ ap (λ m. m >>= value_of) d.is in
-    let same : d.value.value ≡ k.value =
-    sym (noted-value name d.value) ∙ ap (λ j. j.value) (same-found _ _ d.rest) in
-    subst (λ x. ends x bs ≡ Ok v) same (sym (ap (λ m. m >>= λ y. ends y bs) whole) ∙ e)
+closes-same b g name k v bs c e = grind (arith, nat_tests)
 
 settled-by : (t : Bool) (b outer : Open) (g : Found Value) (v : Value) (bs : List Open) (w : Word)
     (cs : List Open) → ends g.value (b ∷ outer ∷ bs) ≡ Ok v →
@@ -251,9 +205,7 @@ settled-by : (t : Bool) (b outer : Open) (g : Found Value) (v : Value) (bs : Lis
     ((k : Found Value) → ends k.value (outer ∷ bs) ≡ Ok v → settled k outer bs w ≡ Ok cs
     → Stepped v w cs) → Stepped v w cs
 settled-by true b outer g v bs w cs e h next = advanced-stepped b g v (outer ∷ bs) w cs e h
-settled-by false b outer g v bs w cs e h next =
-    let c = bind-ok (closed_into b g outer.head.anchor) (λ k. settled k outer bs w) cs h in
-    next c.value (closes-same b g outer.head.anchor c.value v (outer ∷ bs) c.is e) c.rest
+settled-by false b outer g v bs w cs e h next = grind (arith, bind-ok, closes-same)
 
 settled-stepped : (bs : List Open) (b : Open) (g : Found Value) (v : Value) (w : Word)
     (cs : List Open) → ends g.value (b ∷ bs) ≡ Ok v → settled g b bs w ≡ Ok cs → Stepped v w cs
@@ -261,16 +213,9 @@ settled-stepped [] b g v w cs e h = advanced-stepped b g v [] w cs e h
 settled-stepped (outer ∷ bs) b g v w cs e h = settled-by (is_below outer.head w) b outer g v bs w cs
     e h (λ k i j. settled-stepped bs outer k v w cs i j)
 
--- A BLOCK THAT BEGINS
-same-value : (x y : Value) → (let r : Checked Value = Ok x in r) ≡ Ok y → x ≡ y
-same-value x y h = cc
-
 fits-over : (f : Shown) (n : ℕ) (d e : Data) → depth d ≤ 1 → merged_pairs d ≡ []
     → Within f (suc n) d e → Fits f (suc n) e
-fits-over f n d e small none h = record {
-  deep = omega (arith, h.deep, small);
-  merged = λ T. omega (arith, h.merged T, ap (λ ps. pairs_depth (sift T ps)) none);
-}
+fits-over f n d e small none h = grind arith
 
 begun-map : (m : Bool) (line : ℕ) (f : Shown) (n : ℕ) (k : Key) (x : Value) → k.merges ≡ m
     → Fits f n x.tree → Fits (λ T. cond m (left_by [] f T) (at_key k.name n T))
@@ -278,9 +223,7 @@ begun-map : (m : Bool) (line : ℕ) (f : Shown) (n : ℕ) (k : Key) (x : Value) 
 begun-map true line f n k x e small =
     fits-over (left_by [] f) (f (keys_so_far [])) (map_value line []).tree _ (omega arith) refl
     (within-merge-more f n line [] (written k x) e small)
-begun-map false line f n k x e small =
-    fits-over (at_key k.name n) n (map_value line []).tree _ (omega arith) refl
-    (within-own-more n line [] (written k x) e refl small.deep)
+begun-map false line f n k x e small = grind (arith, fits-over, within-own-more)
 
 fits-same : (f : Shown) (n : ℕ) (x y : Value) → x ≡ y → Fits f n x.tree → Fits f n y.tree
 fits-same f n x y e h = subst (λ (z : Value). Fits f n z.tree) e h
@@ -289,16 +232,14 @@ begun-fits : (s : Shape) (line : ℕ) (f : Shown) (n : ℕ) (x y : Value)
     → closed_value (begun_done s) line x ≡ Ok y → Fits f n x.tree
     → Fits (passed (begun_done s) n f) (deepened (begun_done s) f n) y.tree
 begun-fits (dash a) line f n x y h small =
-    fits-same (passed (done_items []) n f) (suc n) (list_value line (x ∷ [])) y (same-value _ y h)
-    (fits-over (passed (done_items []) n f) n (list_value line []).tree _ (omega arith) refl
-    (within-item f n line [] x small))
+    search (rules, fits-same, same-ok, fits-over, within-item)
 begun-fits (key k a content) line f n x y h small =
     let parts = then-ok (check_merge k x) _ y h in
     fits-same (passed (done_entries [] k) n f) (deepened (done_entries [] k) f n)
-    (map_value line (written k x ∷ [])) y (same-value _ y parts.1)
+    (map_value line (written k x ∷ [])) y (same-ok _ y parts.1)
     (begun-map k.merges line f n k x refl small)
-begun-fits (leaf content) line f n x y h small = fits-same f n x y (same-value x y h) small
-begun-fits (refused kind) line f n x y h small = fits-same f n x y (same-value x y h) small
+begun-fits (leaf content) line f n x y h small = fits-same f n x y (same-ok x y h) small
+begun-fits (refused kind) line f n x y h small = fits-same f n x y (same-ok x y h) small
 
 below-grown : (w : Word) (own v z : Value) (bs : List Open) → ends z bs ≡ Ok v
     → Grown v (begun w own ∷ bs)
@@ -312,16 +253,7 @@ below-grown w own v z bs e x f n u small k =
 
 below-stepped : (bs : List Open) (v z : Value) (w : Word) (cs : List Open) → ends z bs ≡ Ok v
     → begins bs w ≡ Ok cs → Stepped v w cs
-below-stepped bs v z w cs e h =
-    let o = bind-ok (block_spec.own_value (known_of bs) w.line w.shape)
-    (λ own. let r : Checked (List Open) = Ok (begun w own ∷ bs) in r) cs h in
-    record {
-      top = begun w o.value;
-      rest = bs;
-      is = sym (same-stack _ _ o.rest);
-      head = refl;
-      grown = below-grown w o.value v z bs e;
-    }
+below-stepped bs v z w cs e h = grind (arith, bind-ok, same-stack, below-grown)
 
 step-by : (t : Bool) (b : Open) (bs : List Open) (v : Value) (w : Word) (cs : List Open)
     → front_value (b ∷ bs) ≡ Ok v →
@@ -329,8 +261,7 @@ step-by : (t : Bool) (b : Open) (bs : List Open) (v : Value) (w : Word) (cs : Li
     (settled (own_found b) b bs w) ≡ Ok cs → Stepped v w cs
 step-by true b bs v w cs e h = below-stepped (b ∷ bs) v (own_value b) w cs e
     (then-ok (check (opens_block b.head.sort) Unsupported) _ cs h).1
-step-by false b bs v w cs e h =
-    settled-stepped bs b (own_found b) v w cs (ap (λ x. ends x (b ∷ bs)) (own-value b) ∙ e) h
+step-by false b bs v w cs e h = grind (arith, settled-stepped, own-value)
 
 step-stepped : (bs : List Open) (v : Value) (w : Word) (cs : List Open) → front_value bs ≡ Ok v
     → step bs w ≡ Ok cs → Stepped v w cs
@@ -362,8 +293,7 @@ record Ended (cs : List Open) (u : Value) (b : Open) (bs : List Open) : Type 0 w
 step-below : (t : Bool) (b : Open) (bs : List Open) (w : Word) (cs : List Open) → t ≡ true →
     cond t (check (opens_block b.head.sort) Unsupported >> begins (b ∷ bs) w)
     (settled (own_found b) b bs w) ≡ Ok cs → begins (b ∷ bs) w ≡ Ok cs
-step-below true b bs w cs e h = (then-ok (check (opens_block b.head.sort) Unsupported) _ cs h).1
-step-below false b bs w cs e h = cc
+step-below t b bs w cs e h = grind arith
 
 ended-over : (cs : List Open) (u own : Value) (w : Word) (b : Open) (bs : List Open)
     → Ended cs u (begun w own) (b ∷ bs) → Ended cs u b bs
@@ -405,26 +335,12 @@ record Shallow (m : Checked Value) : Type 0 where
   is : m ≡ Ok value
   small : depth value.tree ≤ 32
 
-checked-not : (b : Bool) (kind : YamlKind) → check (not b) kind ≡ Ok tt → b ≡ false
-checked-not true kind h = cc
-checked-not false kind h = refl
-
 shallow : (m : Checked Value) → (m >>= within_limits) ≡ Ok tt → Shallow m
-shallow (Err k) h = cc
-shallow (Ok v) h = record {
-  value = v;
-  is = refl;
-  small = ge_fact 32 (depth v.tree) (checked-not (nat_lt 32 (depth v.tree)) TooDeep
-      (then-ok (check (not (nat_lt 32 (depth v.tree))) TooDeep) _ tt h).0);
-}
+shallow m h = grind arith
 
 pub words-kept : (ws : List Word) (bs cs : List Open) → Lined ws → checked_front bs ≡ Ok tt
     → steps bs ws ≡ Ok cs → KeepsDepth cs
-words-kept [] bs cs f k h u e =
-    let v = shallow (front_value bs) k in
-    let same : v.value ≡ u =
-    same-value v.value u (sym v.is ∙ ap front_value (same-stack bs cs h) ∙ e) in
-    omega (arith, v.small, ap (λ x. depth x.tree) same)
+words-kept [] bs cs f k h u e = grind (arith, shallow, same-ok, same-stack)
 words-kept (w ∷ ws) bs cs f k h u e =
     let v = shallow (front_value bs) k in
     let s = bind-ok (step bs w) (λ ds. steps ds ws) cs h in
@@ -435,8 +351,7 @@ words-kept (w ∷ ws) bs cs f k h u e =
 
 -- THE BOUND WITHOUT A LOOK AT KEYS
 at-less : (b : Bool) (n c : ℕ) → n ≤ c → cond b 0 n ≤ c
-at-less true n c h = omega arith
-at-less false n c h = h
+at-less b n c h = grind arith
 
 seen-by : (m : Bool) (f : Shown) (n c : ℕ) (ws : List Written) (k : Key) (bs : List Open)
     → ((T : List (List ℕ)) → f T ≤ c) → n ≤ suc c

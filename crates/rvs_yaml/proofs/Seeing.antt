@@ -1,14 +1,11 @@
 -- What is new in open blocks, from the innermost outwards.
 use Rattle.std.proofs.Common.{◌≡◌, ℕ, ◌≤◌, min, Bool, true, false, cond, List, [], ◌∷◌}
-use Rattle.std.proofs.Common.{◌++◌, ◌+◌, ◌-◌, ◌<◌, refl, sym, ap, ◌∙◌, arith, length, take, get_or}
-use Rattle.std.proofs.Common.{slice_get, Some, suc, append-nil, subst, true≢false}
-use Rattle.std.proofs.Common.{Vec, Global}
+use Rattle.std.proofs.Common.{◌++◌, ◌+◌, ◌-◌, ◌<◌, sym, ap, ◌∙◌, arith, length, take, get_or}
+use Rattle.std.proofs.Common.{slice_get, Some, suc, append-nil, subst}
+use Rattle.std.proofs.Common.{rules}
 use Rattle.rvs_tree.specs.Data.{depth}
 use Rattle.std.specs.Prelude.{◌||◌}
-use Rattle.rvs_tree.specs.Value.{Value, Written, has_key, keys_of, pairs_in, trees}
-use Rattle.rvs_tree.specs.Value.{explicit_keys, resolved}
-use Rattle.rvs_tree.specs.ShownView.{depths_view}
-use Rattle.rvs_tree.specs.declared.key_depth.KeyDepth.{KeyDepth}
+use Rattle.rvs_tree.specs.Value.{Value, Written, has_key}
 use Rattle.rvs_yaml.specs.Chain.{in_chain, chain_keys}
 use Rattle.rvs_yaml.specs.Stack.{done_items, done_entries}
 use Rattle.rvs_yaml_text.specs.Word.{Key}
@@ -34,82 +31,33 @@ Keys = List (List ℕ)
 visible-less : (ps : List (List ℕ × ℕ)) (V U : List (List ℕ))
     → ((k : List ℕ) → has_key k V ≡ true → has_key k U ≡ true) → visible ps U ≤ visible ps V
 visible-less [] V U h = omega arith
-visible-less (p ∷ ps) V U h =
-    omega (arith, visible-less ps V U h, at-behind-by (has_key p.0 U) (has_key p.0 V) p.1 (h p.0))
+visible-less (p ∷ ps) V U h = grind (arith, at-behind-by, (visible-less ps V U h))
 
 pub behind-more : (ps : List (List ℕ × ℕ)) (X T : List (List ℕ))
     → visible ps (X ++ T) ≤ visible ps T
 behind-more ps X T = visible-less ps T (X ++ T) (λ k h. in-more k X T h)
 
 or-either : (a b c : Bool) → (b ≡ true → c ≡ true) → (a || b) ≡ true → (a || c) ≡ true
-or-either true b c g e = refl
-or-either false b c g e = g e
+or-either a b c g e = grind arith
 
 or-cover : (a b c : Bool) → (c ≡ true → a ≡ true) → (b || c) ≡ true → (a || b) ≡ true
-or-cover true b c g e = refl
-or-cover false true c g e = refl
-or-cover false false c g e = g e
+or-cover a b c g e = grind arith
 
 behind-keys : (X K T : Keys) → Holds K T → Holds (X ++ K) (X ++ T)
-behind-keys X K T h k i =
-    has_key-append k X T
-    ∙ or-either (has_key k X) (has_key k K) (has_key k T) (h k) (sym (has_key-append k X K) ∙ i)
+behind-keys X K T h k i = grind (arith, has_key-append, or-either)
 
 -- what a list keeps of what is new in its open item
 pub list-step : (vs : List Value) (inside : Bool) (keys : Keys) (s new : Seen)
     → new.depth ≡ min (s.depth + 1) 33 → new.depths ≡ s.depths
     → Steps (done_items vs) inside keys s new
-list-step vs true keys s new d e f n t =
-    let X = keys_of (pairs_in (trees vs)) in
-    record {
-      deep = λ i. absurd (true≢false i);
-      shown = λ T h. omega (
-        arith,
-        t.shown (X ++ T) (behind-keys X keys T h),
-        behind-more (depths_view s.depths.items) X T,
-        ap (λ (v : Vec KeyDepth Global). visible (depths_view v.items) T) e,
-      );
-    }
-list-step vs false keys s new d e f n t =
-    let X = keys_of (pairs_in (trees vs)) in
-    record {
-      deep = λ i. omega (arith, t.deep refl, d);
-      shown = λ T h. omega (
-        arith,
-        t.shown (X ++ T) (λ k i. cc),
-        behind-more (depths_view s.depths.items) X T,
-        ap (λ (v : Vec KeyDepth Global). visible (depths_view v.items) T) e,
-      );
-    }
+list-step vs inside keys s new d e = search (rules, behind-keys, behind-more)
 
 map-told : (ws : List Written) (inside : Bool) (keys : Keys) (s new : Seen)
     → (inside ≡ false → keys ≡ []) → new.depth ≡ min (s.deepest + 1) 33 → new.depths ≡ s.depths
     → (f : Shown) (n : ℕ) → TellsIn true (keys_so_far ws ++ keys) s f n
     → TellsIn inside keys new (left_by ws f) (suc (f (keys_so_far ws)))
 map-told ws inside keys s new none d e f n t =
-    let A = keys_so_far ws in
-    let S = keys_of (resolved (explicit_keys ws) [] ws) in
-    let ds = depths_view s.depths.items in
-    record {
-      deep = λ i. omega (
-        arith,
-        t.shown A (λ k j. sym (ap (has_key k) (append-nil A))
-            ∙ subst (λ ks. has_key k (A ++ ks) ≡ true) (none i) j),
-        visible-less ds [] A (λ k j. cc),
-        s.known,
-        d,
-      );
-      shown = λ T h.
-          let U = (S ++ T) ++ A in
-          omega (
-            arith,
-            t.shown U (λ k j. has_key-append k (S ++ T) A
-                ∙ or-cover (has_key k (S ++ T)) (has_key k A) (has_key k keys)
-                (λ l. in-more k S T (h k l)) (sym (has_key-append k A keys) ∙ j)),
-            visible-less ds T U (λ k j. front-key k (S ++ T) A (in-more k S T j)),
-            ap (λ (v : Vec KeyDepth Global). visible (depths_view v.items) T) e,
-          );
-    }
+    grind (arith, append-nil, visible-less, has_key-append, or-cover, in-more, front-key)
 
 -- what a map keeps of what is new in what it merges
 pub map-step : (ws : List Written) (k : Key) → k.merges ≡ true → (inside : Bool) (keys : Keys)
@@ -124,8 +72,7 @@ map-step ws k m inside keys none s new d e f n t =
 
 -- a key that is taken brings nothing
 pub at-taken : (b : Bool) (n : ℕ) → b ≡ true → cond b 0 n ≡ 0
-at-taken true n e = refl
-at-taken false n e = absurd (true≢false (sym e))
+at-taken b n e = grind arith
 
 -- one open block more is passed
 pub tells-next : (bs : List code.Open) (m : ℕ) (b : code.Open) (s new : Seen) (t : ℕ)

@@ -2,19 +2,17 @@
 use Rattle.std.proofs.Common.{◌≡◌, ◌≤◌, ◌+◌, ◌-◌, ℕ, false, List, [], ◌∷◌, ◌++◌, map, reverse}
 use Rattle.std.proofs.Common.{length, take, drop, Some, Ok, refl, sym, ap, subst, ◌∙◌, arith}
 use Rattle.std.proofs.Common.{get_or}
-use Rattle.std.specs.Prelude.{if◌then◌else◌}
 use Rattle.std.proofs.lemmas.List.{reverse-append, map-append, take-append-drop, length-take-le}
 use Rattle.std.proofs.lemmas.List.{take-take, take_all, drop-append-le, drop_all, take_more}
 use Rattle.std.specs.Prelude.{slice_get}
 use Rattle.rvs_yaml.proofs.Sketching.{some-last}
 use Rattle.std.proofs.lemmas.Option.{slice_get-get_or}
-use Rattle.rvs_tree.specs.Data.{depth}
 use Rattle.rvs_tree.specs.Value.{Value}
 use Rattle.rvs_yaml_text.specs.Word.{Name, Word, Head, Content, Bracket, Token, is_below}
 use Rattle.rvs_yaml_text.specs.WordView.{head_view}
 use Rattle.rvs_yaml.specs.Anchors as anchors_spec
-use Rattle.rvs_yaml.specs.Checks.{Checked, ◌>>=◌}
-use Rattle.rvs_yaml.specs.Block.{Found, found, check_merge, content_value}
+use Rattle.rvs_yaml.specs.Checks.{◌>>=◌}
+use Rattle.rvs_yaml.specs.Block.{found, content_value}
 use Rattle.rvs_yaml.specs.Stack as spec
 use Rattle.rvs_yaml.specs.Stack.{Done, done_items, done_entries, alone, known_of, noted, closed_as}
 use Rattle.rvs_yaml.specs.Stack.{closed_into, settled, step}
@@ -23,24 +21,22 @@ use Rattle.rvs_yaml.specs.Filling.{with_own, filled}
 use Rattle.rvs_yaml.specs.Flow.{flow_value}
 use Rattle.rvs_yaml.specs.Front.{own_value, ends, front_value, checked_front}
 use Rattle.rvs_yaml.specs.Reach.{passed, deepened, seen, sight, KeepsDepth}
-use Rattle.rvs_tree.specs.Shown.{Shown, shown_by}
+use Rattle.rvs_tree.specs.Shown.{Shown}
 use Rattle.rvs_yaml.specs.Parsed.{within_limits}
 use Rattle.rvs_yaml.specs.Rising.{Rises, befores}
-use Rattle.rvs_yaml.specs.StackView.{anchor_view, anchors_view, own_view, open_view, stack_view}
+use Rattle.rvs_yaml.specs.StackView.{anchors_view, own_view, open_view, stack_view}
 use Rattle.rvs_yaml.specs.StackView.{done_view, block_at, open_at, over, anchored, Names}
 use Rattle.rvs_yaml.specs.declared.open.Block as code
 use Rattle.rvs_yaml.specs.declared.open.Anchor.{Anchor}
 use Rattle.rvs_yaml.specs.declared.open.Open.{Open}
 use Rattle.rvs_yaml.proofs.Fronts.{noted-value}
 use Rattle.rvs_yaml.proofs.Lookups.{reverse-push}
-use Rattle.rvs_yaml.proofs.Outlined.{bind_assoc, bind_same, then_assoc}
+use Rattle.rvs_yaml.proofs.Outlined.{bind_assoc, bind_same}
 use Rattle.rvs_yaml.proofs.Stepping.{settled-bare, settled-over, step-over}
 
 pub anchors-append : (xs ys : List Anchor)
     → anchors_view (xs ++ ys) ≡ anchors_view ys ++ anchors_view xs
-anchors-append xs ys =
-    ap reverse (map-append anchor_view xs ys)
-    ∙ reverse-append (map anchor_view xs) (map anchor_view ys)
+anchors-append xs ys = simp (map-append, reverse-append)
 
 pub befores-push : (bs : List Open) (b : Open)
     → befores (bs ++ b ∷ []) ≡ b.block.before ∷ befores bs
@@ -77,10 +73,7 @@ known-all all bs h = known-over all (reverse bs) h
 -- the anchors in a block and those around it are all
 pub known-put : (all : List Anchor) (n : ℕ) (bs : List Open) → Rises (length all) (n ∷ befores bs)
     → anchors_view (drop n all) ++ known_of (anchored (take n all) bs) ≡ anchors_view all
-known-put all n bs h =
-    let below = subst (λ m. Rises m (befores bs)) (sym (length-take-le n all h.0)) h.1 in
-    ap (λ xs. anchors_view (drop n all) ++ xs) (known-over (take n all) (reverse bs) below)
-    ∙ whole all n
+known-put all n bs h = grind (arith, length-take-le, known-over, whole)
 
 segment : (m n : ℕ) (all : List Anchor) → m ≤ n → n ≤ length all
     → drop m all ≡ drop m (take n all) ++ drop n all
@@ -91,9 +84,7 @@ segment m n all h k =
 -- A BLOCK THAT CLOSES
 closed-joined : (d : Done) (line : ℕ) (xs ys : anchors_spec.Anchors) (v : Value)
     → closed_as d line ys (found v xs) ≡ closed_as d line (xs ++ ys) (found v [])
-closed-joined (done_items vs) line xs ys v = refl
-closed-joined (done_entries ws k) line xs ys v = refl
-closed-joined alone line xs ys v = refl
+closed-joined d line xs ys v = grind arith
 
 abbrev with : Block → anchors_spec.Anchors → Block
 with b anchors = record { line = b.line; column = b.column; done = b.done; anchors = anchors }
@@ -102,23 +93,16 @@ settled-joined : (b : Block) (xs ys : anchors_spec.Anchors) (v : Value) (bs : Li
     (w : Word) → settled (found v xs) (bare (with b ys)) bs w
     ≡ settled (found v []) (bare (with b (xs ++ ys))) bs w
 settled-joined b xs ys v [] w = refl
-settled-joined b xs ys v (o ∷ bs) w =
-    ap (λ m. if is_below o.head w then spec.advanced (bare (with b ys)) (found v xs) (o ∷ bs) w
-    else ((m >>= λ h. Ok (noted o.head.anchor h)) >>= λ h. settled h o bs w))
-    (closed-joined b.done b.line xs ys v)
+settled-joined b xs ys v (o ∷ bs) w = grind (arith, closed-joined)
 
 -- the value of a block and the anchors in it
 pub closed-whole : (d : Done) (line : ℕ) (anchors : anchors_spec.Anchors) (v : Value)
     → closed_as d line anchors (found v []) ≡ (closed_value d line v >>= λ u. Ok (found u anchors))
-closed-whole (done_items vs) line anchors v = refl
-closed-whole (done_entries ws k) line anchors v = sym (then_assoc (check_merge k v) _ _)
-closed-whole alone line anchors v = refl
+closed-whole d line anchors v = grind arith
 
 noted-found : (name : Name) (v : Value) (xs ys : anchors_spec.Anchors)
     → ys ≡ (noted name (found v xs)).anchors → noted name (found v xs) ≡ found v ys
-noted-found name v xs ys e =
-    sym (ap (λ zs. found v zs) e ∙ ap (λ u. found u (noted name (found v xs)).anchors)
-    (sym (noted-value name (found v xs))))
+noted-found name v xs ys e = grind (arith, noted-value)
 
 -- A node that is complete and has its anchor is the open member of the block around it.
 pub next-over : (name : Name) (v : Value) (n : ℕ) (all after : List Anchor) (o : Open)
@@ -152,12 +136,7 @@ pub settled-closing : (b : Block) (v : Value) (o : spec.Open) (bs : List spec.Op
     → is_below o.head w ≡ false → settled (found v []) (bare b) (o ∷ bs) w
     ≡ (closed_value b.done b.line v
     >>= λ u. settled (noted o.head.anchor (found u b.anchors)) o bs w)
-settled-closing b v o bs w e =
-    settled-over (found v []) (bare b) o bs w e
-    ∙ ap (λ m. (m >>= λ h. let r : Checked (Found Value) = Ok (noted o.head.anchor h) in r)
-    >>= λ h. settled h o bs w) (closed-whole b.done b.line b.anchors v)
-    ∙ bind_assoc (closed_value b.done b.line v >>= λ u. Ok (found u b.anchors)) _ _
-    ∙ bind_assoc (closed_value b.done b.line v) _ _
+settled-closing b v o bs w e = grind (arith, settled-over, closed-whole, bind_assoc)
 
 -- the word on top is complete
 pub step-own : (v : Value) (n : ℕ) (all after : List Anchor) (o : Open) (bs : List Open) (w : Word)
@@ -167,39 +146,21 @@ pub step-own : (v : Value) (n : ℕ) (all after : List Anchor) (o : Open) (bs : 
     ≡ settled (found v []) (bare (block_at after o.block)) (anchored (take o.block.before after) bs)
     w
 step-own v n all after o bs w e h below is named =
-    let m = o.block.before in
-    let name = (head_view o.head).anchor in
-    let whole-list : take n all ≡ all = take_all n all (omega (arith, e)) in
-    let none : drop n all ≡ [] = drop_all n all (omega (arith, e)) in
-    step-over (open_at all o) (anchored (take m all) bs) w below
-    ∙ ap (λ u. settled (noted name (found u [])) (open_at all o) (anchored (take m all) bs) w)
-    (sym is)
-    ∙ sym (ap (λ xs. settled (noted name (found v (anchors_view xs))) (open_at all o)
-    (anchored (take m all) bs) w) none)
-    ∙ sym (ap (λ xs. settled (noted name (found v (anchors_view (drop n all)))) (open_at xs o)
-    (anchored (take m xs) bs) w) whole-list)
-    ∙ next-over name v n all after o bs w named h (omega (arith, e))
+    grind (arith, take_all, drop_all, step-over, next-over)
 
 pub put-all : (all : List Anchor) (n : ℕ) (b : Block) (bs : List Open) (h : Head) (c : Content)
     → b.anchors ≡ anchors_view (drop n all) → Rises (length all) (n ∷ befores bs)
     → put_content b (anchored (take n all) bs) h c
     ≡ (content_value (anchors_view all) h.line c
     >>= λ own. Ok (opened b h own ∷ anchored (take n all) bs))
-put-all all n b bs h c e r =
-    ap (λ xs. content_value xs h.line c
-    >>= λ own. let q : Checked (List spec.Open) = Ok (opened b h own ∷ anchored (take n all) bs) in
-    q)
-    (ap (λ xs. xs ++ known_of (anchored (take n all) bs)) e ∙ known-put all n bs r)
+put-all all n b bs h c e r = grind (arith, known-put)
 
 pub filled-all : (all : List Anchor) (o : Open) (bs : List Open) (b : Bracket) (ts : List Token)
     → Rises (length all) (o.block.before ∷ befores bs)
     → filled (Some (b, ts)) (open_at all o ∷ anchored (take o.block.before all) bs)
     ≡ (flow_value (anchors_view all) o.head.line b ts
     >>= λ own. Ok (with_own (open_at all o) own ∷ anchored (take o.block.before all) bs))
-filled-all all o bs b ts r =
-    ap (λ xs. flow_value xs o.head.line b ts >>= λ own. let q : Checked (List spec.Open) =
-    Ok (with_own (open_at all o) own ∷ anchored (take o.block.before all) bs) in q)
-    (known-put all o.block.before bs r)
+filled-all all o bs b ts r = simp known-put
 
 -- the block on top is the last
 pub last-whole : (bs : List Open) (top : Open) → Some top ≡ slice_get bs (length bs - 1)
@@ -226,19 +187,7 @@ pub closed-over : (v u : Value) (b : code.Block) (o : Open) (rest : List Open)
     ≡ settled (found v []) (bare (block_at all b)) (anchored (take b.before all)
     (rest ++ o ∷ [])) w)
 closed-over v u b o rest all after w above risen is named =
-    let n = b.before in
-    let m = o.block.before in
-    let at = block_at all b in
-    let around = open_at (take n all) o in
-    let below = anchored (take m (take n all)) rest in
-    let name = (head_view o.head).anchor in
-    let inner : Rises n (m ∷ befores rest) = subst (Rises n) (befores-push rest o) risen.1 in (
-      (omega (arith, inner.0, risen.0, named.more), inner.1),
-      sym (next-over name u n all after o rest w named inner.0 risen.0)
-          ∙ sym (ap (λ r. r >>= λ x. settled (noted name (found x at.anchors)) around below w) is)
-          ∙ sym (settled-closing at v around below w above)
-          ∙ sym (ap (λ s. settled (found v []) (bare at) s w) (anchored-push (take n all) rest o)),
-    )
+    grind (arith, befores-push, next-over, settled-closing, anchored-push)
 
 -- THE FRONT NEEDS NO ANCHORS
 map-reverse : (bs : List Open) → reverse (map open_view bs) ≡ map open_view (reverse bs)
@@ -282,13 +231,8 @@ seen-over f n all (b ∷ bs) =
 
 sight-over : (all : List Anchor) (bs : List Open) → sight (over all bs) ≡ sight (map open_view bs)
 sight-over all [] = refl
-sight-over all (b ∷ bs) =
-    let own = (own_value (open_view b)).tree in seen-over (shown_by own) (depth own) all (b ∷ bs)
+sight-over all (b ∷ bs) = grind (arith, seen-over)
 
 pub keeps-anchored : (all : List Anchor) (bs : List Open) → KeepsDepth (anchored all bs)
     → KeepsDepth (stack_view bs)
-keeps-anchored all bs k = λ v e.
-    let deep = k v (front-anchored all bs ∙ e) in
-    let same : sight (anchored all bs) ≡ sight (stack_view bs) =
-    sight-over all (reverse bs) ∙ ap sight (sym (map-reverse bs)) in
-    omega (arith, deep, same)
+keeps-anchored all bs k = grind (arith, front-anchored, sight-over, map-reverse)

@@ -6,7 +6,7 @@ use Rattle.std.proofs.lemmas.Bool.Decides.{nat_tests}
 use Rattle.rvs_yaml.specs.Checks.{Checked, ◌>>=◌, check}
 use Rattle.rvs_tree.proofs.Growing.{own-more}
 use Rattle.rvs_tree.proofs.Merging.{map-depth}
-use Rattle.rvs_tree.specs.Data.{Data, scalar, sequence, mapping, entries_of, depth}
+use Rattle.rvs_tree.specs.Data.{Data, mapping, entries_of, depth}
 use Rattle.rvs_tree.specs.Value.{Value, Written, scalar_value, merged_pairs, is_map_or_empty}
 use Rattle.rvs_tree.specs.Value.{explicit_keys, resolved}
 use Rattle.rvs_tree.specs.Bound.{pairs_depth}
@@ -21,25 +21,18 @@ use Rattle.rvs_yaml.specs.declared.open.Open.{Open}
 use Rattle.rvs_yaml_text.specs.declared.kind.YamlKind.TheVariants.{BadMerge}
 use Rattle.rvs_tree.proofs.Sums.{list_shallower, take_whole}
 use Rattle.rvs_yaml.proofs.Lookups.{stack-more}
-use Rattle.std.proofs.Common.{get_or}
+use Rattle.std.proofs.Common.{get_or, rules}
 
 -- what a list brings is less deep than the maps in it
 pub list-shallower : (d : Data) → is_map_or_empty d ≡ false
     → pairs_depth (merged_pairs d) ≤ depth d - 2
-list-shallower (scalar [] line) h = cc
-list-shallower (scalar (b ∷ bs) line) h = omega arith
-list-shallower (sequence ds line) h = list_shallower (sequence ds line) refl
-list-shallower (mapping es line) h = cc
+list-shallower d h = search (rules, list_shallower)
 
 pub check-bad : (a b : Bool) → (a && not b) ≡ true → check (not a || b) BadMerge ≡ Err BadMerge
-check-bad true true h = cc
-check-bad true false h = refl
-check-bad false b h = cc
+check-bad a b h = grind arith
 
 pub check-good : (a b : Bool) → (a && not b) ≡ false → check (not a || b) BadMerge ≡ Ok tt
-check-good true true h = refl
-check-good true false h = cc
-check-good false b h = refl
+check-good a b h = grind arith
 
 pub ends-top : (bs : List Open) (m : ℕ) (b : Open) (v : Value) → m < length bs →
     ends v (stack_view (take (m + 1) bs))
@@ -72,9 +65,7 @@ no_last bs h = ap (λ xs. front_value (stack_view xs)) (none-last bs h)
 
 last-here : (bs : List Open) (top : Open) → Some top ≡ slice_get bs (length bs - 1)
     → length bs - 1 < length bs → get_or bs (length bs - 1) top ≡ top
-last-here bs top h n =
-    let there : slice_get bs (length bs - 1) ≡ Some (get_or bs (length bs - 1) top) =
-    slice_get-get_or bs (length bs - 1) top n in cc
+last-here bs top h n = grind (arith, slice_get, slice_get-get_or)
 
 pub some-last : (bs : List Open) (top : Open) → Some top ≡ slice_get bs (length bs - 1)
     → length bs - 1 < length bs
@@ -98,8 +89,7 @@ stack-top bs top h =
 pub front-top : (bs : List Open) (top : Open) → Some top ≡ slice_get bs (length bs - 1)
     → (top_closed top >>= λ w. ends w (stack_view (take (length bs - 1) bs)))
     ≡ front_value (stack_view bs)
-front-top bs top h =
-    sym (ap front_value (stack-top bs top h))
+front-top bs top h = grind (arith, stack-top)
 
 pub top-ok : (bs : List Open) (top : Open) (sk : Sketch) → Some top ≡ slice_get bs (length bs - 1)
     → ((v : Value) × (top_closed top ≡ Ok v) × IsSketch v sk) →
@@ -154,8 +144,7 @@ least-by : (b : Bool) (ws : List Written) (w : Written) (n : ℕ) → w.merges �
     → n ≤ depth w.value.tree →
     (if b then 1 else min (n + 1) 33)
     ≤ depth (mapping (entries_of (resolved (explicit_keys (ws ++ w ∷ [])) [] (ws ++ w ∷ []))) 0)
-least-by true ws w n e h = omega arith
-least-by false ws w n e h = omega (arith, h, map-depth (ws ++ w ∷ []), (own-more ws w e).0)
+least-by b ws w n e h = search (rules, map-depth, own-more)
 
 -- a map is deeper than the value of its last entry, unless that is merged
 pub least-map : (ws : List Written) (w : Written) (n : ℕ) → n ≤ depth w.value.tree →

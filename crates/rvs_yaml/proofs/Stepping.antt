@@ -1,12 +1,12 @@
 -- Steps of the stack, part by part.
-use Rattle.std.proofs.Common.{◌≡◌, ℕ, false, List, [], ◌∷◌, ◌++◌, Ok, refl, sym, ap, ◌∙◌}
+use Rattle.std.proofs.Common.{◌≡◌, ℕ, false, List, [], ◌∷◌, ◌++◌, Ok, refl, sym, ap, ◌∙◌, arith}
 use Rattle.rvs_yaml.specs.Checks.{Checked, ◌>>=◌}
 use Rattle.rvs_tree.specs.Value.{Value}
-use Rattle.rvs_yaml_text.specs.Word.{Content, Shape, dash, key, leaf, refused, Word, Head, head_of}
+use Rattle.rvs_yaml_text.specs.Word.{Content, Shape, Word, Head, head_of}
 use Rattle.rvs_yaml_text.specs.Word.{is_below}
 use Rattle.rvs_yaml.specs.Anchors.{Anchors}
 use Rattle.rvs_yaml.specs.Block.{Found, own_value, content_value}
-use Rattle.rvs_yaml.specs.Stack.{Done, Open, begun_done, known_of, begins, put, advanced_as}
+use Rattle.rvs_yaml.specs.Stack.{Done, Open, begun_done, begins, put}
 use Rattle.rvs_yaml.specs.Stack.{advanced, closed_into, settled, own_found, step}
 use Rattle.rvs_yaml.specs.StepParts.{Block, own_content, put_content, advanced_content, opened}
 use Rattle.rvs_yaml.specs.StepParts.{bare}
@@ -14,10 +14,7 @@ use Rattle.rvs_yaml.proofs.Outlined.{bind_assoc, bind_same}
 
 pub own-content : (known : Anchors) (line : ℕ) (s : Shape)
     → content_value known line (own_content s) ≡ own_value known line s
-own-content known line (dash a) = refl
-own-content known line (key k a content) = refl
-own-content known line (leaf content) = refl
-own-content known line (refused kind) = refl
+own-content known line s = grind arith
 
 abbrev pub block_with : ℕ → ℕ → Done → Anchors → Block
 block_with line column done anchors =
@@ -25,22 +22,12 @@ block_with line column done anchors =
 
 put-own : (b : Block) (bs : List Open) (w : Word)
     → put_content b bs (head_of w) (own_content w.shape) ≡ put b.line b.column b.done b.anchors bs w
-put-own b bs w = ap (λ m. m >>= λ own. Ok (record {
-  line = b.line;
-  column = b.column;
-  done = b.done;
-  anchors = b.anchors;
-  head = head_of w;
-  own = own;
-} ∷ bs)) (own-content (b.anchors ++ known_of bs) w.line w.shape)
+put-own b bs w = simp own-content
 
 pub begins-put : (bs : List Open) (w : Word) (h : Head) (p : Done × Content) → h ≡ head_of w
     → p ≡ (begun_done w.shape, own_content w.shape)
     → put_content (block_with h.line h.column p.0 []) bs h p.1 ≡ begins bs w
-begins-put bs w h p e q =
-    ap (λ k. put_content (block_with k.line k.column p.0 []) bs k p.1) e
-    ∙ ap (λ r. put_content (block_with w.line w.column r.0 []) bs (head_of w) r.1) q
-    ∙ put-own (block_with w.line w.column (begun_done w.shape) []) bs w
+begins-put bs w h p e q = grind (arith, put-own)
 
 -- the block goes on with a word whose parts are p
 pub advanced-put : (b : Block) (g : Found Value) (bs : List Open) (w : Word) (h : Head)
@@ -48,13 +35,7 @@ pub advanced-put : (b : Block) (g : Found Value) (bs : List Open) (w : Word) (h 
     (advanced_content b.done b.column g.value w
     >>= λ p. put_content (block_with b.line b.column p.0 anchors) bs h p.1) ≡ advanced (bare b)
     g bs w
-advanced-put b g bs w h anchors e a =
-    bind_assoc (advanced_as b.done b.column g.value w) _ _
-    ∙ bind_same (advanced_as b.done b.column g.value w) _ _ (λ d.
-    ap (λ k. put_content (block_with b.line b.column d anchors) bs k (own_content w.shape)) e
-    ∙ ap (λ xs. put_content (block_with b.line b.column d xs) bs (head_of w) (own_content w.shape))
-    a
-    ∙ put-own (block_with b.line b.column d (g.anchors ++ b.anchors)) bs w)
+advanced-put b g bs w h anchors e a = grind (arith, bind_assoc, bind_same, put-own)
 
 -- what the next steps are, once the parts are there
 pub then-parts : {A B : Type 0} (m : Checked A) (p : A) (f : A → Checked B) (t : Checked B)

@@ -1,17 +1,17 @@
 -- What is read where other values stand for those of the anchors.
 use Rattle.std.proofs.Common.{◌≡◌, ℕ, Bool, true, false, cond, List, [], ◌∷◌, ◌++◌, map, Option}
-use Rattle.std.proofs.Common.{Some, None, Ok, Err, refl, sym, ap, ◌∙◌}
-use Rattle.std.specs.Prelude.{◌&&◌, ◌||◌, not, option_map, bytes_eq, if◌then◌else◌}
-use Rattle.rvs_tree.specs.Data.{Data, scalar, sequence, mapping, no_items, items_of}
+use Rattle.std.proofs.Common.{Some, Ok, refl, sym, ap, ◌∙◌, arith, rules}
+use Rattle.std.specs.Prelude.{◌&&◌, ◌||◌, not, option_map, if◌then◌else◌}
+use Rattle.rvs_tree.specs.Data.{Data, scalar, sequence, no_items, items_of}
 use Rattle.rvs_tree.specs.Value.{Value, Written, scalar_value, list_value, map_value, trees, plus}
 use Rattle.rvs_tree.specs.Value.{nodes_from, written_nodes_from, text_nodes, is_map_or_empty}
-use Rattle.rvs_tree.specs.Value.{are_maps_or_empty, is_mergeable, has_key, explicit_keys}
+use Rattle.rvs_tree.specs.Value.{are_maps_or_empty, is_mergeable, explicit_keys}
 use Rattle.rvs_tree.specs.Standin.{thin, standin, formed_value}
 use Rattle.rvs_tree.proofs.Sums.{map-append}
-use Rattle.rvs_yaml_text.specs.Word.{Key, Bracket, square, curly, Token, opening, closing, comma}
+use Rattle.rvs_yaml_text.specs.Word.{Key, Bracket, Token, opening, closing, comma}
 use Rattle.rvs_yaml_text.specs.Word.{colon, scalar_token, key_token, cut_key, colon_scalar}
 use Rattle.rvs_yaml_text.specs.Word.{alias_token, late_colon, fault}
-use Rattle.rvs_yaml.specs.Checks.{Checked, ◌>>=◌, ◌>>◌, check, mapped}
+use Rattle.rvs_yaml.specs.Checks.{Checked, ◌>>=◌, ◌>>◌, mapped}
 use Rattle.rvs_yaml.specs.Anchors.{Anchors, lookup, known_alias, thinned, formed}
 use Rattle.rvs_yaml.specs.Entry.{written}
 use Rattle.rvs_yaml.specs.Flow.{FlowState, member, behind_member, key_place, entry_value}
@@ -24,37 +24,25 @@ use Rattle.rvs_yaml.specs.FlowSteps.{Reading, open_in, whole, closed_by, into, m
 use Rattle.rvs_yaml.specs.FlowSteps.{flow_steps}
 use Rattle.rvs_yaml.specs.FlowParts.{first_reading, ended, formed_flow}
 use Rattle.rvs_yaml_text.specs.declared.kind.YamlKind.{YamlKind}
-use Rattle.rvs_yaml_text.specs.declared.kind.YamlKind.TheVariants.{BadFlow, BadScalar, DuplicateKey}
-use Rattle.rvs_yaml.proofs.Outlined.{bind_same}
+use Rattle.rvs_yaml_text.specs.declared.kind.YamlKind.TheVariants.{BadScalar}
+use Rattle.rvs_yaml.proofs.Outlined.{bind_same, then_same}
 use Rattle.rvs_yaml.proofs.FlowRuns.{flow-ended}
 
 -- what stands for a tree can be merged as the tree can
 map-by : (b : Bool) (line : ℕ)
     → is_map_or_empty (if b then sequence no_items line else scalar (120 ∷ []) line) ≡ false
-map-by true line = refl
-map-by false line = refl
+map-by b line = grind arith
 
 pub thin-map : (d : Data) → is_map_or_empty (thin d) ≡ is_map_or_empty d
-thin-map (scalar text line) = refl
-thin-map (sequence ds line) = map-by (are_maps_or_empty ds) line
-thin-map (mapping es line) = refl
-
-merge-by : (b : Bool) (line : ℕ)
-    → is_mergeable (if b then sequence no_items line else scalar (120 ∷ []) line) ≡ b
-merge-by true line = refl
-merge-by false line = refl
+thin-map d = grind arith
 
 pub thin-mergeable : (d : Data) → is_mergeable (thin d) ≡ is_mergeable d
-thin-mergeable (scalar text line) = refl
-thin-mergeable (sequence ds line) = merge-by (are_maps_or_empty ds) line
-thin-mergeable (mapping es line) = refl
+thin-mergeable d = grind arith
 
 thin-items : (vs : List Value) → are_maps_or_empty (items_of (trees (map standin vs)))
     ≡ are_maps_or_empty (items_of (trees vs))
 thin-items [] = refl
-thin-items (v ∷ vs) =
-    ap (λ b. b && are_maps_or_empty (items_of (trees (map standin vs)))) (thin-map v.tree)
-    ∙ ap (λ b. is_map_or_empty v.tree && b) (thin-items vs)
+thin-items (v ∷ vs) = simp (thin-map, (thin-items vs))
 
 thin-nodes : (n : ℕ) (vs : List Value) → nodes_from n (map standin vs) ≡ nodes_from n vs
 thin-nodes n [] = refl
@@ -73,10 +61,7 @@ with_both d n = record { tree = d; nodes = n }
 
 thin-list : (line : ℕ) (vs : List Value)
     → standin (list_value line (map standin vs)) ≡ standin (list_value line vs)
-thin-list line vs =
-    ap (λ b. with_both (if b then sequence no_items line else scalar (120 ∷ []) line)
-    (nodes_from 1 (map standin vs))) (thin-items vs)
-    ∙ ap (with_both (thin (sequence (items_of (trees vs)) line))) (thin-nodes 1 vs)
+thin-list line vs = simp (thin-items, thin-nodes)
 
 thin-map_value : (line : ℕ) (ws : List Written)
     → standin (map_value line (map thin_written ws)) ≡ standin (map_value line ws)
@@ -103,11 +88,7 @@ thin_place (entry_value ws k) = entry_value (map thin_written ws) k
 thin_place (behind_entry ws) = behind_entry (map thin_written ws)
 
 place-fits : (p : FlowState) → fits (thin_place p) ≡ fits p
-place-fits (member vs) = refl
-place-fits (behind_member vs) = refl
-place-fits (key_place ws) = refl
-place-fits (entry_value ws k) = refl
-place-fits (behind_entry ws) = thin-last ws
+place-fits p = search (rules, thin-last)
 
 abbrev thin_level : Bracket × FlowState → Bracket × FlowState
 thin_level o = (o.0, thin_place o.1)
@@ -118,76 +99,54 @@ thin_reading (whole p) = whole (standin p.0, p.1)
 
 mapped-bind : {A B C : Type 0} (f : B → C) (m : Checked A) (g : A → Checked B)
     → mapped f (m >>= g) ≡ (m >>= λ x. mapped f (g x))
-mapped-bind f (Ok x) g = refl
-mapped-bind f (Err k) g = refl
+mapped-bind = grind arith
 
 mapped-then : {A B C : Type 0} (f : B → C) (m : Checked A) (g : Checked B)
     → mapped f (m >> g) ≡ (m >> mapped f g)
-mapped-then f (Ok x) g = refl
-mapped-then f (Err k) g = refl
+mapped-then = grind arith
 
 bind-mapped : {A B C : Type 0} (f : A → B) (m : Checked A) (g : B → Checked C)
     → (mapped f m >>= g) ≡ (m >>= λ x. g (f x))
-bind-mapped f (Ok x) g = refl
-bind-mapped f (Err k) g = refl
-
-then-with : {A B : Type 0} (m : Checked A) (f g : Checked B) → f ≡ g → (m >> f) ≡ (m >> g)
-then-with (Ok x) f g h = h
-then-with (Err k) f g h = refl
+bind-mapped = grind arith
 
 -- a value comes next
 thin-value : (p : FlowState) (v : Value)
     → with_value (thin_place p) (standin v) ≡ mapped thin_place (with_value p v)
-thin-value (member vs) v = ap (λ us. Ok (behind_member us)) (sym (map-append standin vs (v ∷ [])))
-thin-value (behind_member vs) v = refl
-thin-value (key_place ws) v = refl
-thin-value (entry_value ws k) v =
-    ap (λ us. Ok (behind_entry us)) (sym (map-append thin_written ws (written k v ∷ [])))
-thin-value (behind_entry ws) v = refl
+thin-value p v = search (rules, map-append)
 
 thin-new : (ws : List Written) (k : Key) → new_key (map thin_written ws) k ≡ new_key ws k
-thin-new ws k =
-    ap (λ ks. check (k.merges || not (has_key k.name ks)) DuplicateKey) (thin-explicit ws)
+thin-new ws k = simp thin-explicit
 
 thin-lookup-by : (b : Bool) (v : Value) (o p : Option Value) → o ≡ option_map standin p
     → cond b (Some (standin v)) o ≡ option_map standin (cond b (Some v) p)
-thin-lookup-by true v o p h = refl
-thin-lookup-by false v o p h = h
+thin-lookup-by b v o p h = grind arith
 
 thin-lookup : (name : List ℕ) (known : Anchors)
     → lookup name (thinned known) ≡ option_map standin (lookup name known)
 thin-lookup name [] = refl
-thin-lookup name (a ∷ more) = thin-lookup-by (bytes_eq a.0 name) a.1 (lookup name (thinned more))
-    (lookup name more) (thin-lookup name more)
+thin-lookup name (a ∷ more) = grind (arith, thin-lookup-by, (thin-lookup name more))
 
 found-alias : (o : Option Value)
     → known_alias (option_map standin o) ≡ mapped standin (known_alias o)
-found-alias None = refl
-found-alias (Some v) = refl
+found-alias o = grind arith
 
 thin-known : (name : List ℕ) (known : Anchors)
     → known_alias (lookup name (thinned known)) ≡ mapped standin (known_alias (lookup name known))
 thin-known name known = ap known_alias (thin-lookup name known) ∙ found-alias (lookup name known)
 
 same-alias : (o : Option Value) → known_alias o ≡ mapped (formed_value false) (known_alias o)
-same-alias None = refl
-same-alias (Some v) = refl
+same-alias o = grind arith
 
 pub formed-alias : (poor : Bool) (name : List ℕ) (known : Anchors)
     → known_alias (lookup name (formed poor known))
     ≡ mapped (formed_value poor) (known_alias (lookup name known))
-formed-alias false name known = same-alias (lookup name known)
-formed-alias true name known = thin-known name known
+formed-alias poor name known = search (rules, same-alias, thin-known)
 
 alias-into : (known : Anchors) (name : List ℕ) (f : Value → FlowState) (g : Value → FlowState)
     → ((v : Value) → f (standin v) ≡ thin_place (g v)) →
     (known_alias (lookup name (thinned known)) >>= λ v. Ok (f v))
     ≡ mapped thin_place (known_alias (lookup name known) >>= λ v. Ok (g v))
-alias-into known name f g h =
-    ap (λ m. m >>= λ v. let r : Checked FlowState = Ok (f v) in r) (thin-known name known)
-    ∙ bind-mapped standin (known_alias (lookup name known)) (λ v. Ok (f v))
-    ∙ bind_same (known_alias (lookup name known)) _ _ (λ v. ap (λ p. Ok p) (h v))
-    ∙ sym (mapped-bind thin_place (known_alias (lookup name known)) (λ v. Ok (g v)))
+alias-into known name f g h = grind (arith, thin-known, bind-mapped, bind_same, mapped-bind)
 
 thin-alias : (known : Anchors) (p : FlowState) (name : List ℕ)
     → with_alias (thinned known) (thin_place p) name ≡ mapped thin_place (with_alias known p name)
@@ -207,46 +166,22 @@ thin-alias known (behind_entry ws) [] = refl
 thin-alias known (behind_entry ws) (b ∷ bs) = refl
 
 thin-comma : (p : FlowState) → with_comma (thin_place p) ≡ mapped thin_place (with_comma p)
-thin-comma (member vs) = refl
-thin-comma (behind_member vs) = refl
-thin-comma (key_place ws) = refl
-thin-comma (entry_value ws k) = refl
-thin-comma (behind_entry ws) = refl
+thin-comma p = grind arith
 
 thin-key : (p : FlowState) (k : Key) → with_key (thin_place p) k ≡ mapped thin_place (with_key p k)
-thin-key (member vs) k = refl
-thin-key (behind_member vs) k = refl
-thin-key (key_place ws) k = ap
-    (λ m. m >> (let r : Checked FlowState = Ok (entry_value (map thin_written ws) k) in r))
-    (thin-new ws k) ∙ sym (mapped-then thin_place (new_key ws k) (Ok (entry_value ws k)))
-thin-key (entry_value ws l) k = refl
-thin-key (behind_entry ws) k = refl
+thin-key p k = search (rules, thin-new, mapped-then)
 
 thin-cut : (p : FlowState) (k : Key)
     → with_cut_key (thin_place p) k ≡ mapped thin_place (with_cut_key p k)
-thin-cut (member vs) k = refl
-thin-cut (behind_member vs) k = refl
-thin-cut (key_place ws) k =
-    ap (λ m. m >> (let r : Checked FlowState = Err BadFlow in r)) (thin-new ws k)
-    ∙ sym (mapped-then thin_place (new_key ws k) (Err BadFlow))
-thin-cut (entry_value ws l) k = refl
-thin-cut (behind_entry ws) k = refl
+thin-cut p k = search (rules, thin-new, mapped-then)
 
 thin-colon : (p : FlowState) (b : ℕ)
     → with_colon_scalar (thin_place p) b ≡ mapped thin_place (with_colon_scalar p b)
-thin-colon (member vs) b = refl
-thin-colon (behind_member vs) b = refl
-thin-colon (key_place ws) b = refl
-thin-colon (entry_value ws l) b = refl
-thin-colon (behind_entry ws) b = refl
+thin-colon p b = grind arith
 
 thin-fault : (p : FlowState) (kind : YamlKind)
     → with_fault (thin_place p) kind ≡ mapped thin_place (with_fault p kind)
-thin-fault (member vs) kind = refl
-thin-fault (behind_member vs) kind = refl
-thin-fault (key_place ws) kind = refl
-thin-fault (entry_value ws l) kind = refl
-thin-fault (behind_entry ws) kind = refl
+thin-fault p kind = grind arith
 
 thin-token : (known : Anchors) (line : ℕ) (p : FlowState) (m : Token)
     → with_token (thinned known) line (thin_place p) m
@@ -264,11 +199,7 @@ thin-token known line p late_colon = refl
 thin-token known line p (fault kind) = thin-fault p kind
 
 thin-open : (p : FlowState) → may_open (thin_place p) ≡ may_open p
-thin-open (member vs) = refl
-thin-open (behind_member vs) = refl
-thin-open (key_place ws) = refl
-thin-open (entry_value ws k) = refl
-thin-open (behind_entry ws) = refl
+thin-open p = grind arith
 
 thin-closes : (line : ℕ) (p : FlowState)
     → closed_by true line (thin_place p) ≡ mapped standin (closes line p)
@@ -281,16 +212,12 @@ thin-closes line (behind_entry ws) = ap (λ v. Ok v) (thin-map_value line ws)
 thin-moved : (known : Anchors) (good : Bool) (b : Bracket) (outer : List (Bracket × FlowState))
     (m : Checked FlowState) → moved good b (map thin_level outer) (mapped thin_place m) ≡ mapped
     thin_reading (moved good b outer m)
-thin-moved known good b outer (Ok p) =
-    ap (λ g. Ok (open_in (good && g) b (thin_place p) (map thin_level outer))) (place-fits p)
-thin-moved known good b outer (Err k) = refl
+thin-moved known good b outer m = search (rules, place-fits)
 
 into-by : (good : Bool) (b : Bracket) (outer : List (Bracket × FlowState)) (m : Checked FlowState) →
     (mapped thin_place m >>= λ next. Ok (open_in (good && fits next) b next (map thin_level outer)))
     ≡ mapped thin_reading (m >>= λ next. Ok (open_in (good && fits next) b next outer))
-into-by good b outer (Ok p) =
-    ap (λ g. Ok (open_in (good && g) b (thin_place p) (map thin_level outer))) (place-fits p)
-into-by good b outer (Err k) = refl
+into-by good b outer m = search (rules, place-fits)
 
 thin-into : (v : Value) (good : Bool) (outer : List (Bracket × FlowState))
     → into (standin v, good) (map thin_level outer) ≡ mapped thin_reading (into (v, good) outer)
@@ -303,63 +230,31 @@ thin-close : (line : ℕ) (good : Bool) (b c : Bracket) (outer : List (Bracket �
     (m : Checked Value) →
     (mapped standin m >>= λ v. ends_with b (Some c) >> into (v, good) (map thin_level outer))
     ≡ mapped thin_reading (m >>= λ v. ends_with b (Some c) >> into (v, good) outer)
-thin-close line good b c outer (Ok v) =
-    then-with (ends_with b (Some c)) _ _ (thin-into v good outer)
-    ∙ sym (mapped-then thin_reading (ends_with b (Some c)) (into (v, good) outer))
-thin-close line good b c outer (Err k) = refl
+thin-close line good b c outer m = search (rules, then_same, thin-into, mapped-then)
 
 first-thin : (b : Bracket) → thin_place (first_place b) ≡ first_place b
-first-thin square = refl
-first-thin curly = refl
+first-thin b = grind arith
 
 thin-opening : (good : Bool) (b c : Bracket) (p : FlowState) (outer : List (Bracket × FlowState)) →
     (may_open (thin_place p) >> (let r : Checked Reading = Ok
     (open_in good c (first_place c) ((b, thin_place p) ∷ map thin_level outer)) in r)) ≡ mapped
     thin_reading (may_open p >> Ok (open_in good c (first_place c) ((b, p) ∷ outer)))
-thin-opening good b c p outer =
-    ap (λ m. m >> (let r : Checked Reading = Ok
-    (open_in good c (first_place c) ((b, thin_place p) ∷ map thin_level outer)) in r))
-    (thin-open p)
-    ∙ then-with (may_open p) _ _ (ap
-    (λ q. Ok (open_in good c q ((b, thin_place p) ∷ map thin_level outer)))
-    (sym (first-thin c)))
-    ∙ sym (mapped-then thin_reading (may_open p)
-    (Ok (open_in good c (first_place c) ((b, p) ∷ outer))))
+thin-opening good b c p outer = simp (thin-open, then_same, first-thin, mapped-then)
 
 thin-step : (known : Anchors) (line : ℕ) (r : Reading) (m : Token)
     → flow_step true (thinned known) line (thin_reading r) m
     ≡ mapped thin_reading (flow_step false known line r m)
 thin-step known line (open_in good b p outer) (opening c) = thin-opening good b c p outer
-thin-step known line (open_in good b p outer) (closing c) =
-    ap (λ m. m >>= λ v. ends_with b (Some c) >> into (v, good) (map thin_level outer))
-    (thin-closes line p) ∙ thin-close line good b c outer (closes line p)
-thin-step known line (open_in good b p outer) comma =
-    ap (moved good b (map thin_level outer)) (thin-token known line p comma)
-    ∙ thin-moved known good b outer (with_token known line p comma)
-thin-step known line (open_in good b p outer) colon =
-    ap (moved good b (map thin_level outer)) (thin-token known line p colon)
-    ∙ thin-moved known good b outer (with_token known line p colon)
-thin-step known line (open_in good b p outer) (scalar_token k) =
-    ap (moved good b (map thin_level outer)) (thin-token known line p (scalar_token k))
-    ∙ thin-moved known good b outer (with_token known line p (scalar_token k))
-thin-step known line (open_in good b p outer) (key_token k) =
-    ap (moved good b (map thin_level outer)) (thin-token known line p (key_token k))
-    ∙ thin-moved known good b outer (with_token known line p (key_token k))
-thin-step known line (open_in good b p outer) (cut_key k) =
-    ap (moved good b (map thin_level outer)) (thin-token known line p (cut_key k))
-    ∙ thin-moved known good b outer (with_token known line p (cut_key k))
-thin-step known line (open_in good b p outer) (colon_scalar k) =
-    ap (moved good b (map thin_level outer)) (thin-token known line p (colon_scalar k))
-    ∙ thin-moved known good b outer (with_token known line p (colon_scalar k))
-thin-step known line (open_in good b p outer) (alias_token k) =
-    ap (moved good b (map thin_level outer)) (thin-token known line p (alias_token k))
-    ∙ thin-moved known good b outer (with_token known line p (alias_token k))
-thin-step known line (open_in good b p outer) late_colon =
-    ap (moved good b (map thin_level outer)) (thin-token known line p late_colon)
-    ∙ thin-moved known good b outer (with_token known line p late_colon)
-thin-step known line (open_in good b p outer) (fault k) =
-    ap (moved good b (map thin_level outer)) (thin-token known line p (fault k))
-    ∙ thin-moved known good b outer (with_token known line p (fault k))
+thin-step known line (open_in good b p outer) (closing c) = simp (thin-closes, thin-close)
+thin-step known line (open_in good b p outer) comma = simp (thin-token, thin-moved)
+thin-step known line (open_in good b p outer) colon = simp (thin-token, thin-moved)
+thin-step known line (open_in good b p outer) (scalar_token k) = simp (thin-token, thin-moved)
+thin-step known line (open_in good b p outer) (key_token k) = simp (thin-token, thin-moved)
+thin-step known line (open_in good b p outer) (cut_key k) = simp (thin-token, thin-moved)
+thin-step known line (open_in good b p outer) (colon_scalar k) = simp (thin-token, thin-moved)
+thin-step known line (open_in good b p outer) (alias_token k) = simp (thin-token, thin-moved)
+thin-step known line (open_in good b p outer) late_colon = grind (arith, thin-token, thin-moved)
+thin-step known line (open_in good b p outer) (fault k) = simp (thin-token, thin-moved)
 thin-step known line (whole v) (opening c) = refl
 thin-step known line (whole v) (closing c) = refl
 thin-step known line (whole v) comma = refl
@@ -384,27 +279,15 @@ thin-steps known line (m ∷ ms) r =
     ∙ sym (mapped-bind thin_reading (flow_step false known line r m)
     (λ s. flow_steps false known line s ms))
 
-good-thin : (v : Value) (good : Bool)
-    → merged_well (standin v, good) ≡ mapped standin (merged_well (v, good))
-good-thin v true = refl
-good-thin v false = refl
-
 ended-thin : (r : Reading) → ended (thin_reading r) ≡ mapped standin (ended r)
-ended-thin (whole p) = good-thin p.0 p.1
-ended-thin (open_in good b p outer) = refl
+ended-thin r = grind arith
 
 first-reading : (b : Bracket) → first_reading b ≡ thin_reading (first_reading b)
-first-reading square = refl
-first-reading curly = refl
+first-reading b = grind arith
 
 -- Where other values stand for those of the anchors, a collection has the same faults, and else
 -- what stands for its value.
 pub thin-flow : (known : Anchors) (line : ℕ) (b : Bracket) (ms : List Token)
     → formed_flow true (thinned known) line b ms ≡ mapped standin (flow_value known line b ms)
 thin-flow known line b ms =
-    ap (λ r. flow_steps true (thinned known) line r ms >>= ended) (first-reading b)
-    ∙ ap (λ m. m >>= ended) (thin-steps known line ms (first_reading b))
-    ∙ bind-mapped thin_reading (flow_steps false known line (first_reading b) ms) ended
-    ∙ bind_same (flow_steps false known line (first_reading b) ms) _ _ ended-thin
-    ∙ sym (mapped-bind standin (flow_steps false known line (first_reading b) ms) ended)
-    ∙ sym (ap (mapped standin) (flow-ended known line b ms))
+    simp (first-reading, thin-steps, bind-mapped, bind_same, ended-thin, mapped-bind, flow-ended)

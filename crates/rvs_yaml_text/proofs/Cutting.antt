@@ -1,6 +1,6 @@
 -- Cutting a text into lines.
-use Rattle.std.proofs.Common.{◌≡◌, ℕ, ◌+◌, Bool, true, false, List, [], ◌∷◌, ◌++◌}
-use Rattle.std.proofs.Common.{refl}
+use Rattle.std.proofs.Common.{◌≡◌, ℕ, Bool, List, [], ◌∷◌, ◌++◌}
+use Rattle.std.proofs.Common.{refl, arith}
 use Rattle.std.specs.Prelude.{◌==◌, if◌then◌else◌}
 use Rattle.rvs_yaml_text.specs.Text.{onto_first, cut}
 
@@ -12,9 +12,7 @@ onto_front xs (l ∷ ls) = (xs ++ l) ∷ ls
 start-by : (t : Bool) (b : ℕ) (ls : List (List ℕ))
     → onto_front [] (if t then [] ∷ ls else onto_first b ls)
     ≡ (if t then [] ∷ ls else onto_first b ls)
-start-by true b ls = refl
-start-by false b [] = refl
-start-by false b (l ∷ ls) = refl
+start-by t b ls = grind arith
 
 pub cut-start : (bs : List ℕ) → onto_front [] (cut bs) ≡ cut bs
 cut-start [] = refl

@@ -1,6 +1,7 @@
 -- Plain scalars in a flow collection, byte by byte.
-use Rattle.std.proofs.Common.{◌≡◌, ℕ, ◌+◌, ◌<◌, Bool, true, false, List, [], ◌∷◌, ◌++◌, length}
-use Rattle.std.proofs.Common.{take, drop, get_or, sym, ap, ◌∙◌, refl, append-nil, append_assoc}
+use Rattle.std.proofs.Common.{◌≡◌, ℕ, ◌+◌, ◌<◌, Bool, true, false, List, [], ◌∷◌, length}
+use Rattle.std.proofs.Common.{take, drop, get_or, refl, append-nil, append_assoc}
+use Rattle.std.proofs.Common.{arith}
 use Rattle.std.specs.Prelude.{◌==◌}
 use Rattle.std.proofs.lemmas.List.{take_more}
 use Rattle.rvs_yaml_text.specs.Tokens.{ends_plain, plain_split, before}
@@ -17,19 +18,10 @@ plain-on sp b bs e = rw (e, plain_split) refl
 pub plain-found : (sp : Bool) (bs : List ℕ) (i : ℕ) → i < length bs
     → ends_plain sp (get_or bs i 0) (drop (i + 1) bs) ≡ true
     → front_too (take i bs) (plain_split sp (drop i bs)) ≡ (take i bs, drop i bs)
-plain-found sp bs i h e =
-    ap (λ ys. front_too (take i bs) (plain_split sp ys)) (drop-at bs i h)
-    ∙ ap (front_too (take i bs)) (plain-here sp (get_or bs i 0) (drop (i + 1) bs) e)
-    ∙ ap (λ ys. (ys, get_or bs i 0 ∷ drop (i + 1) bs)) (append-nil (take i bs))
-    ∙ ap (λ ys. (take i bs, ys)) (sym (drop-at bs i h))
+plain-found sp bs i h e = simp (front_too, drop-at, plain-here, append-nil)
 
 pub plain-more : (sp : Bool) (bs : List ℕ) (i : ℕ) → i < length bs
     → ends_plain sp (get_or bs i 0) (drop (i + 1) bs) ≡ false →
     front_too (take (i + 1) bs) (plain_split (get_or bs i 0 == 32) (drop (i + 1) bs))
     ≡ front_too (take i bs) (plain_split sp (drop i bs))
-plain-more sp bs i h e =
-    let rest = plain_split (get_or bs i 0 == 32) (drop (i + 1) bs) in
-    ap (λ xs. (xs ++ rest.0, rest.1)) (take_more bs i 0 h)
-    ∙ ap (λ xs. (xs, rest.1)) (append_assoc (take i bs) (get_or bs i 0 ∷ []) rest.0)
-    ∙ ap (front_too (take i bs)) (sym (plain-on sp (get_or bs i 0) (drop (i + 1) bs) e))
-    ∙ sym (ap (λ ys. front_too (take i bs) (plain_split sp ys)) (drop-at bs i h))
+plain-more sp bs i h e = grind (arith, take_more, append_assoc, front_too, plain-on, drop-at)

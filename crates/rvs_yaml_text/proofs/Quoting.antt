@@ -1,11 +1,11 @@
 -- Quoted scalars, piece by piece.
 use Rattle.std.proofs.Common.{◌≡◌, ℕ, ◌+◌, ◌<◌, Bool, true, false, List, [], ◌∷◌, ◌++◌, length}
 use Rattle.std.proofs.Common.{take, drop, get_or, Option, Some, None, option_map, refl, sym, ap}
-use Rattle.std.proofs.Common.{◌∙◌, append-nil, append_assoc, arith}
+use Rattle.std.proofs.Common.{◌∙◌, append-nil, append_assoc, arith, rules}
 use Rattle.std.proofs.lemmas.Bool.Decides.{nat_tests}
 use Rattle.std.specs.Prelude.{◌==◌, ◌||◌}
 use Rattle.rvs_yaml_text.specs.Scalar.{Split, onto, single, behind_quote, double, behind_backslash}
-use Rattle.rvs_yaml_text.specs.Scalar.{escaped, starts_with}
+use Rattle.rvs_yaml_text.specs.Scalar.{starts_with}
 use Rattle.rvs_yaml_text.specs.Quotes.{at_byte, at_stop, escape}
 use Rattle.rvs_yaml_text.proofs.Scans.{onto_all, onto_all-onto, drop-at}
 
@@ -14,10 +14,7 @@ byte-here c b bs e = rw (e, at_byte) refl
 
 pub byte-found : (c : ℕ) (bs : List ℕ) (i : ℕ) → i < length bs → (get_or bs i 0 == c) ≡ true
     → onto_all (take i bs) (at_byte c (drop i bs)) ≡ Some (take i bs, drop (i + 1) bs)
-byte-found c bs i h e =
-    ap (λ ys. onto_all (take i bs) (at_byte c ys)) (drop-at bs i h)
-    ∙ ap (onto_all (take i bs)) (byte-here c (get_or bs i 0) (drop (i + 1) bs) e)
-    ∙ ap (λ ys. Some (ys, drop (i + 1) bs)) (append-nil (take i bs))
+byte-found c bs i h e = simp (onto_all, drop-at, byte-here, append-nil)
 
 stop-here : (b : ℕ) (bs : List ℕ) → (b == 34 || b == 92) ≡ true
     → at_stop (b ∷ bs) ≡ Some ([], b ∷ bs)
@@ -26,11 +23,7 @@ stop-here b bs e = rw (e, at_stop) refl
 pub stop-found : (bs : List ℕ) (i : ℕ) → i < length bs
     → (get_or bs i 0 == 34 || get_or bs i 0 == 92) ≡ true
     → onto_all (take i bs) (at_stop (drop i bs)) ≡ Some (take i bs, drop i bs)
-stop-found bs i h e =
-    ap (λ ys. onto_all (take i bs) (at_stop ys)) (drop-at bs i h)
-    ∙ ap (onto_all (take i bs)) (stop-here (get_or bs i 0) (drop (i + 1) bs) e)
-    ∙ ap (λ ys. Some (ys, get_or bs i 0 ∷ drop (i + 1) bs)) (append-nil (take i bs))
-    ∙ ap (λ ys. Some (take i bs, ys)) (sym (drop-at bs i h))
+stop-found bs i h e = simp (onto_all, drop-at, stop-here, append-nil)
 
 -- what a split becomes
 abbrev then_quote : Split → Split
@@ -38,21 +31,17 @@ then_quote None = None
 then_quote (Some p) = onto_all p.0 (behind_quote p.1)
 
 onto_nil : (o : Split) → onto_all [] o ≡ o
-onto_nil None = refl
-onto_nil (Some p) = refl
+onto_nil o = grind arith
 
 onto-onto_all : (b : ℕ) (xs : List ℕ) (o : Split) → onto b (onto_all xs o) ≡ onto_all (b ∷ xs) o
-onto-onto_all b xs None = refl
-onto-onto_all b xs (Some q) = refl
+onto-onto_all b xs o = grind arith
 
 onto_all-onto_all : (xs ys : List ℕ) (o : Split)
     → onto_all xs (onto_all ys o) ≡ onto_all (xs ++ ys) o
-onto_all-onto_all xs ys None = refl
-onto_all-onto_all xs ys (Some q) = ap (λ zs. Some (zs, q.1)) (sym (append_assoc xs ys q.0))
+onto_all-onto_all xs ys o = search (rules, append_assoc)
 
 onto-quote : (b : ℕ) (o : Split) → onto b (then_quote o) ≡ then_quote (onto b o)
-onto-quote b None = refl
-onto-quote b (Some p) = onto-onto_all b p.0 (behind_quote p.1)
+onto-quote b o = grind arith
 
 single-by : (t : Bool) (b : ℕ) (bs : List ℕ) → single bs ≡ then_quote (at_byte 39 bs) →
     (elim t as (λ _. Split) [ true ↦ behind_quote bs | false ↦ onto b (single bs) ])
@@ -60,21 +49,18 @@ single-by : (t : Bool) (b : ℕ) (bs : List ℕ) → single bs ≡ then_quote (a
       | true ↦ Some ([], bs)
       | false ↦ onto b (at_byte 39 bs)
     ])
-single-by true b bs ih = sym (onto_nil (behind_quote bs))
-single-by false b bs ih = ap (onto b) ih ∙ onto-quote b (at_byte 39 bs)
+single-by t b bs ih = grind arith
 
 single-split : (bs : List ℕ) → single bs ≡ then_quote (at_byte 39 bs)
 single-split [] = refl
 single-split (b ∷ bs) = single-by (b == 39) b bs (single-split bs)
 
 pub quote-end : (bs : List ℕ) → starts_with 39 bs ≡ false → behind_quote bs ≡ Some ([], bs)
-quote-end [] e = refl
-quote-end (b ∷ bs) e = rw (e, behind_quote) refl
+quote-end bs e = grind arith
 
 quote-more : (bs : List ℕ) → starts_with 39 bs ≡ true
     → behind_quote bs ≡ onto 39 (single (drop 1 bs))
-quote-more [] e = cc
-quote-more (b ∷ bs) e = rw (e, behind_quote) refl
+quote-more bs e = grind arith
 
 single-piece : (rest piece behind : List ℕ) → Some (piece, behind) ≡ at_byte 39 rest
     → single rest ≡ onto_all piece (behind_quote behind)
@@ -99,8 +85,7 @@ single-more done text rest piece behind inv e q =
 
 pub single-none : (done text rest : List ℕ) → onto_all done (single rest) ≡ single text
     → None ≡ at_byte 39 rest → None ≡ single text
-single-none done text rest inv e =
-    sym (ap (onto_all done) (single-split rest ∙ ap then_quote (sym e))) ∙ inv
+single-none done text rest inv e = grind (arith, onto_all, single-split)
 
 -- the same in double quotes
 abbrev then_stop : Split → Split
@@ -108,12 +93,10 @@ then_stop None = None
 then_stop (Some p) = onto_all p.0 (double p.1)
 
 onto-stop : (b : ℕ) (o : Split) → onto b (then_stop o) ≡ then_stop (onto b o)
-onto-stop b None = refl
-onto-stop b (Some p) = onto-onto_all b p.0 (double p.1)
+onto-stop b o = grind arith
 
 or_parts : (x y : Bool) → (x || y) ≡ false → (x ≡ false) × (y ≡ false)
-or_parts true y h = cc
-or_parts false y h = (refl, h)
+or_parts x y h = grind arith
 
 double-more : (b : ℕ) (bs : List ℕ) → (b == 34) ≡ false → (b == 92) ≡ false
     → double (b ∷ bs) ≡ onto b (double bs)
@@ -121,27 +104,14 @@ double-more b bs h k = rw (h, double) (rw (k, double) refl)
 
 double-split : (bs : List ℕ) → double bs ≡ then_stop (at_stop bs)
 double-split [] = refl
-double-split (b ∷ bs) =
-    elim (b == 34 || b == 92) as
-    (λ t. (b == 34 || b == 92) ≡ t → double (b ∷ bs) ≡ then_stop (elim t as (λ _. Split) [
-      | true ↦ Some ([], b ∷ bs)
-      | false ↦ onto b (at_stop bs)
-    ])) [
-      | true ↦ λ e. sym (onto_nil (double (b ∷ bs)))
-      | false ↦ λ e. double-more b bs (or_parts (b == 34) (b == 92) e).0
-          (or_parts (b == 34) (b == 92) e).1 ∙ ap (onto b) (double-split bs) ∙ onto-stop b
-          (at_stop bs)
-    ] refl
+double-split (b ∷ bs) = grind (arith, nat_tests, (double-split bs))
 
 double-quote : (bs : List ℕ) → starts_with 34 bs ≡ true → double bs ≡ Some ([], drop 1 bs)
-double-quote [] e = cc
-double-quote (b ∷ bs) e = rw (e, double) refl
+double-quote bs e = grind arith
 
 double-escape : (bs : List ℕ) → starts_with 34 bs ≡ false
     → (starts_with 34 bs || starts_with 92 bs) ≡ true → double bs ≡ behind_backslash (drop 1 bs)
-double-escape [] e m = cc
-double-escape (b ∷ bs) e m = let k : (b == 92) ≡ true = rw e at m in
-    rw (e, double) (rw (k, double) refl)
+double-escape bs e m = grind arith
 
 double-piece : (rest piece behind : List ℕ) → Some (piece, behind) ≡ at_stop rest
     → double rest ≡ onto_all piece (double behind)
@@ -156,28 +126,23 @@ double-found done text rest piece behind inv e q =
     ∙ sym (ap (onto_all done) (double-piece rest piece behind e)) ∙ inv
 
 onto_one : (c : ℕ) (o : Split) → onto c o ≡ onto_all (c ∷ []) o
-onto_one c None = refl
-onto_one c (Some p) = refl
+onto_one c o = grind arith
 
 escaped-text : (o : Option ℕ) (xs : List ℕ) (bs : List ℕ) → Some xs ≡ option_map (λ c. c ∷ []) o
     → (elim o as (λ _. Split) [ None ↦ None | Some c ↦ onto c (double bs) ])
     ≡ onto_all xs (double bs)
-escaped-text None xs bs e = cc
-escaped-text (Some c) xs bs e = let same : xs ≡ c ∷ [] = cc in rw same (onto_one c (double bs))
+escaped-text o xs bs e = grind arith
 
 backslash-text : (bs xs : List ℕ) → Some xs ≡ escape bs
     → behind_backslash bs ≡ onto_all xs (double (drop 1 bs))
-backslash-text [] xs e = cc
-backslash-text (b ∷ bs) xs e = escaped-text (escaped b) xs bs e
+backslash-text bs xs e = grind arith
 
 escaped-none : (o : Option ℕ) (bs : List ℕ) → None ≡ option_map (λ (c : ℕ). c ∷ []) o
     → (elim o as (λ _. Split) [ None ↦ None | Some c ↦ onto c (double bs) ]) ≡ None
-escaped-none None bs e = refl
-escaped-none (Some c) bs e = cc
+escaped-none o bs e = grind arith
 
 backslash-none : (bs : List ℕ) → None ≡ escape bs → behind_backslash bs ≡ None
-backslash-none [] e = refl
-backslash-none (b ∷ bs) e = escaped-none (escaped b) bs e
+backslash-none bs e = grind arith
 
 pub double-more_text : (done text rest piece behind xs : List ℕ)
     → onto_all done (double rest) ≡ double text → Some (piece, behind) ≡ at_stop rest
@@ -202,8 +167,7 @@ double-bad done text rest piece behind inv e q m x =
 
 pub double-none : (done text rest : List ℕ) → onto_all done (double rest) ≡ double text
     → None ≡ at_stop rest → None ≡ double text
-double-none done text rest inv e =
-    sym (ap (onto_all done) (double-split rest ∙ ap then_stop (sym e))) ∙ inv
+double-none done text rest inv e = grind (arith, onto_all, double-split)
 
 pub eq_test : (a b : ℕ) → a ≡ b → (a == b) ≡ true
 eq_test a b h = grind (arith, nat_tests)

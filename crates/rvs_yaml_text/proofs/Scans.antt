@@ -1,10 +1,10 @@
 -- Scanning a text from its front.
 use Rattle.std.proofs.Common.{◌≡◌, ℕ, ◌+◌, ◌<◌, Bool, true, false, List, [], ◌∷◌, ◌++◌, length}
-use Rattle.std.proofs.Common.{take, drop, get_or, Some, None, option_map, refl, sym, ap, ◌∙◌, arith}
+use Rattle.std.proofs.Common.{take, drop, get_or, Some, option_map, refl, sym, ap, ◌∙◌, arith}
 use Rattle.std.proofs.Common.{append_assoc, append-nil}
 use Rattle.std.proofs.Math.Seq.{drop-cons}
 use Rattle.std.proofs.lemmas.List.{take_more}
-use Rattle.std.proofs.Common.{add-one, ◌-◌, length-drop}
+use Rattle.std.proofs.Common.{add-one, ◌-◌, length-drop, rules}
 use Rattle.std.proofs.lemmas.Bool.Decides.{nat_tests}
 use Rattle.std.specs.Prelude.{◌==◌, ◌&&◌}
 use Rattle.rvs_yaml_text.specs.Scalar.{Split, onto, trimmed, push_front, key_split, ends_indicator}
@@ -19,8 +19,7 @@ front_too xs p = (xs ++ p.0, p.1)
 
 pub onto_all-onto : (xs : List ℕ) (b : ℕ) (o : Split)
     → onto_all xs (onto b o) ≡ onto_all (xs ++ b ∷ []) o
-onto_all-onto xs b None = refl
-onto_all-onto xs b (Some p) = ap (λ ys. Some (ys, p.1)) (sym (append_assoc xs (b ∷ []) p.0))
+onto_all-onto xs b o = search (rules, append_assoc)
 
 pub trimmed-space : (xs : List ℕ) → trimmed (xs ++ 32 ∷ []) ≡ trimmed xs
 trimmed-space [] = refl
@@ -48,22 +47,14 @@ pub key-found : (sp : Bool) (bs : List ℕ) (i : ℕ) → i < length bs
     → (get_or bs i 0 == 35 && sp) ≡ false
     → (get_or bs i 0 == 58 && ends_indicator (drop (i + 1) bs)) ≡ true →
     onto_all (take i bs) (key_split sp (drop i bs)) ≡ Some (take i bs, drop (i + 1) bs)
-key-found sp bs i h c e =
-    ap (λ ys. onto_all (take i bs) (key_split sp ys)) (drop-at bs i h)
-    ∙ ap (onto_all (take i bs)) (found-here sp (get_or bs i 0) (drop (i + 1) bs) c e)
-    ∙ ap (λ ys. Some (ys, drop (i + 1) bs)) (append-nil (take i bs))
+key-found sp bs i h c e = simp (drop-at, found-here, append-nil)
 
 pub key-more : (sp : Bool) (bs : List ℕ) (i : ℕ) → i < length bs
     → (get_or bs i 0 == 35 && sp) ≡ false
     → (get_or bs i 0 == 58 && ends_indicator (drop (i + 1) bs)) ≡ false →
     onto_all (take (i + 1) bs) (key_split (get_or bs i 0 == 32) (drop (i + 1) bs))
     ≡ onto_all (take i bs) (key_split sp (drop i bs))
-key-more sp bs i h c e =
-    ap (λ xs. onto_all xs (key_split (get_or bs i 0 == 32) (drop (i + 1) bs))) (take_more bs i 0 h)
-    ∙ sym (onto_all-onto (take i bs) (get_or bs i 0)
-    (key_split (get_or bs i 0 == 32) (drop (i + 1) bs)))
-    ∙ ap (onto_all (take i bs)) (sym (more-here sp (get_or bs i 0) (drop (i + 1) bs) c e))
-    ∙ sym (ap (λ ys. onto_all (take i bs) (key_split sp ys)) (drop-at bs i h))
+key-more sp bs i h c e = grind (arith, take_more, onto_all-onto, more-here, drop-at)
 
 name-here : (b : ℕ) (bs : List ℕ) → is_name_byte b ≡ true
     → name_split (b ∷ bs) ≡ (b ∷ (name_split bs).0, (name_split bs).1)
@@ -84,8 +75,7 @@ space-here b bs e = rw (e, without_spaces) refl
 
 pub spaces-more : (bs : List ℕ) (i : ℕ) → i < length bs → get_or bs i 0 ≡ 32
     → without_spaces (drop (i + 1) bs) ≡ without_spaces (drop i bs)
-spaces-more bs i h e =
-    sym (ap without_spaces (drop-at bs i h) ∙ space-here (get_or bs i 0) (drop (i + 1) bs) e)
+spaces-more bs i h e = simp (drop-at, space-here)
 
 pub solid-more : (bs : List ℕ) (m : ℕ) → m < length bs → get_or bs m 0 ≡ 32
     → trimmed (take m bs) ≡ trimmed (take (m + 1) bs)

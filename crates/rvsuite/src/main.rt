@@ -1,4 +1,5 @@
-//! The architectural test suite for RV32I and RV32E cores with M and A, over real files and streams.
+//! The architectural test suite for RV32I and RV32E cores with M and A, over real files and
+//! streams.
 #![tactic(auto)]
 
 mod exiting;

@@ -1,5 +1,5 @@
 use Rattle.std.proofs.Common.{◌∙◌, ◌∷◌, ap, string_bytes}
-use Rattle.rvs_cgf.specs.PointKeys.{mark}
+use Rattle.rvs_points.specs.Kinds.{mark}
 use Rattle.rvs_cgf.proofs.PointSets.{keys_more}
 use Rattle.rvs_cgf.proofs.points.with_point.Goals as goal
 

@@ -1,7 +1,7 @@
 use Rattle.std.proofs.Common.{◌<◌, ◌++◌, ◌∷◌, [], ◌∙◌, List, length, take, ap, sym, subst, arith}
 use Rattle.std.proofs.Common.{append-nil}
 use Rattle.rvs_cgf.specs.PointKeys.{AreKeysOf}
-use Rattle.rvs_cgf.specs.declared.group.Point.{Point}
+use Rattle.rvs_points.specs.declared.group.Point.{Point}
 use Rattle.rvs_cgf.proofs.PointSets.{next, whole}
 use Rattle.rvs_cgf.proofs.points.with_points.Goals as goal
 

@@ -1,6 +1,6 @@
 use Rattle.std.proofs.Common.{◌++◌, List, take}
 use Rattle.rvs_cgf.specs.PointKeys.{AreKeysOf}
-use Rattle.rvs_cgf.specs.declared.group.Point.{Point}
+use Rattle.rvs_points.specs.declared.group.Point.{Point}
 use Rattle.rvs_cgf.proofs.points.with_points.Given as goal
 
 abbrev pub invariant-loop-point : goal.invariant-loop-point

@@ -1,7 +1,7 @@
 use Rattle.std.proofs.Common.{Some, [], ap, ◌∙◌}
 use Rattle.rvs_log.specs.Taken.{taken}
 use Rattle.rvs_log.proofs.Streams.{begun_is}
-use Rattle.rvs_count.specs.State.{tally_of}
+use Rattle.rvs_index.specs.State.{tally_of}
 use Rattle.rvs_count.proofs.counter.new_counter.Goals as goal
 
 pub returns : goal.returns

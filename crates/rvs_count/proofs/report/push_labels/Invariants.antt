@@ -1,6 +1,6 @@
 use Rattle.std.proofs.Common.{◌≡◌, ◌++◌, length, map, drop}
-use Rattle.rvs_cgf.specs.GroupView.{label_view}
-use Rattle.rvs_count.specs.Counting.{aims_in}
+use Rattle.rvs_points.specs.PointView.{label_view}
+use Rattle.rvs_index.specs.Counting.{aims_in}
 use Rattle.rvs_count.specs.Report.{labels_text}
 use Rattle.rvs_count.proofs.report.push_labels.Given as goal
 

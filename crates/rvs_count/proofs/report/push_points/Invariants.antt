@@ -1,5 +1,5 @@
 use Rattle.std.proofs.Common.{◌≡◌, ◌++◌, map, drop}
-use Rattle.rvs_cgf.specs.GroupView.{point_view}
+use Rattle.rvs_points.specs.PointView.{point_view}
 use Rattle.rvs_count.specs.Report.{points_text}
 use Rattle.rvs_count.proofs.report.push_points.Given as goal
 

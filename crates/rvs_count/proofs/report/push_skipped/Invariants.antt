@@ -1,5 +1,5 @@
 use Rattle.std.proofs.Common.{◌≡◌, ◌++◌, map, drop, flat_map}
-use Rattle.rvs_cgf.specs.GroupView.{skipped_view}
+use Rattle.rvs_points.specs.PointView.{skipped_view}
 use Rattle.rvs_count.specs.Report.{skipped_line}
 use Rattle.rvs_count.proofs.report.push_skipped.Given as goal
 

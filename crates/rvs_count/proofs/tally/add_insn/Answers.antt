@@ -1,9 +1,9 @@
 use Rattle.std.proofs.Common.{◌≡◌, List, ℕ, Some, length, drop, sym, ap, ◌∙◌}
 use Rattle.rvs_machine.specs.Traces.{word_of}
-use Rattle.rvs_count.specs.Counting.{aims_in, hits_insn}
-use Rattle.rvs_count.specs.State.{added}
-use Rattle.rvs_count.proofs.Hitting.{added_length}
-use Rattle.rvs_count.proofs.Marks.{lent_back}
+use Rattle.rvs_index.specs.Counting.{aims_in, hits_insn}
+use Rattle.rvs_index.specs.State.{added}
+use Rattle.rvs_index.proofs.Hitting.{added_length}
+use Rattle.rvs_index.proofs.Marks.{lent_back}
 use Rattle.rvs_count.proofs.tally.add_insn.Goals as goal
 
 pub returns : goal.returns

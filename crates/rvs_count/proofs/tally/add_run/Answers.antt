@@ -1,8 +1,8 @@
 use Rattle.std.proofs.Common.{◌≡◌, List, ℕ, length, drop, sym, ap, ◌∙◌}
-use Rattle.rvs_count.specs.Counting.{aims_in}
-use Rattle.rvs_count.specs.State.{added, ends_run}
-use Rattle.rvs_count.proofs.Hitting.{added_length}
-use Rattle.rvs_count.proofs.Marks.{lent_back}
+use Rattle.rvs_index.specs.Counting.{aims_in}
+use Rattle.rvs_index.specs.State.{added, ends_run}
+use Rattle.rvs_index.proofs.Hitting.{added_length}
+use Rattle.rvs_index.proofs.Marks.{lent_back}
 use Rattle.rvs_count.proofs.tally.add_run.Goals as goal
 
 pub returns : goal.returns

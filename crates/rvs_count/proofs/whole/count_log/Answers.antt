@@ -1,5 +1,5 @@
 use Rattle.std.proofs.Common.{[], ap, ◌∙◌, length}
-use Rattle.rvs_count.specs.State.{CountState, tally_of}
+use Rattle.rvs_index.specs.State.{CountState, tally_of}
 use Rattle.rvs_count.proofs.Ends.{counted_all, counted_instructions}
 use Rattle.rvs_log.proofs.Streams.{fed_of}
 use Rattle.rvs_count.proofs.Streams.{tally_told}

@@ -1,7 +1,7 @@
 use Rattle.std.proofs.Common.{◌≡◌, List, [], ap, ◌∙◌, subst}
 use Rattle.std.proofs.lemmas.Result.{err_from_is_err_and}
 use Rattle.rvs_base.specs.declared.asked.Window.{Window as Span}
-use Rattle.rvs_count.specs.State.{state_of}
+use Rattle.rvs_index.specs.State.{state_of}
 use Rattle.rvs_count.proofs.Ends.{counted_labels, counted_windows}
 use Rattle.rvs_log.proofs.Telling.{told-nothing}
 use Rattle.rvs_plan.specs.World.{world}
@@ -59,12 +59,14 @@ returns-in_err-none-clause-told g c =
 
 pub returns-in_err-to_vec-clause-told : goal.returns-in_err-to_vec-clause-told
 returns-in_err-to_vec-clause-told g c =
-    let p = err_from_is_err_and c.from_residual-in_err-to_vec.result c.from_residual-in_err-to_vec.ensures.1 in
+    let p = err_from_is_err_and c.from_residual-in_err-to_vec.result
+    c.from_residual-in_err-to_vec.ensures.1 in
     rw (p.1, p.2) (told-nothing _ _ _ _)
 
 pub returns-in_err-counter-clause-told : goal.returns-in_err-counter-clause-told
 returns-in_err-counter-clause-told g c =
-    let p = err_from_is_err_and c.from_residual-in_err-counter.result c.from_residual-in_err-counter.ensures.1 in
+    let p = err_from_is_err_and c.from_residual-in_err-counter.result
+    c.from_residual-in_err-counter.ensures.1 in
     rw (p.1, p.2) (told-nothing _ _ _ _)
 
 pub returns-clause-told : goal.returns-clause-told

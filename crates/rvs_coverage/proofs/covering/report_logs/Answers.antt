@@ -16,7 +16,8 @@ returns-in_err-counted-clause-met g c = λ out.
     rw (p.1, p.2) (Meets-stop
     (reports (measure c.args.asked.now.windows) c.args.asked.now.logs
     (groups_view c.args.groups.now))
-    (rw (c.as_slice-windows.ensures, c.as_slice-logs.ensures) at (c.in_err-counted.ensures.met out)))
+    (rw (c.as_slice-windows.ensures, c.as_slice-logs.ensures) at
+    (c.in_err-counted.ensures.met out)))
 
 pub returns-in_err-report_of-clause-met : goal.returns-in_err-report_of-clause-met
 returns-in_err-report_of-clause-met g c = λ out.

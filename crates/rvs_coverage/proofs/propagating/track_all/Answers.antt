@@ -47,7 +47,8 @@ returns-in_err-none-clause-told g c =
 
 pub returns-in_err-tracker-clause-told : goal.returns-in_err-tracker-clause-told
 returns-in_err-tracker-clause-told g c =
-    let p = err_from_is_err_and c.from_residual-in_err-tracker.result c.from_residual-in_err-tracker.ensures.1 in
+    let p = err_from_is_err_and c.from_residual-in_err-tracker.result
+    c.from_residual-in_err-tracker.ensures.1 in
     rw (p.1, p.2) (told-nothing _ _ _ _)
 
 pub returns-clause-told : goal.returns-clause-told

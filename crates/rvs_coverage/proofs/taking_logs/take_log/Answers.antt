@@ -18,7 +18,8 @@ returns-in_err-name-clause-stopped g c =
     rw (p.1, p.2) (λ out more known new.
     Meets-no_memory _ (world (g.H.Host.state c.args.host.now) out))
 
-pub returns-in_err-too_long-in-Err-TooLong-clause-stopped : goal.returns-in_err-too_long-in-Err-TooLong-clause-stopped
+pub returns-in_err-too_long-in-Err-TooLong-clause-stopped
+    : goal.returns-in_err-too_long-in-Err-TooLong-clause-stopped
 returns-in_err-too_long-in-Err-TooLong-clause-stopped g c =
     let p = err_from_is_err_and c.from_residual-in_err-too_long-in-Err-TooLong.result
     c.from_residual-in_err-too_long-in-Err-TooLong.ensures.1 in
@@ -72,7 +73,8 @@ longer : (fed : ℕ) (bytes : List ℕ) → fed ≡ 0 → 2 ^ 40 < fed + length 
     → log_limit < length bytes
 longer fed bytes new long = omega arith
 
-pub returns-in_ok-too_long-in-Err-TooLong-clause-stopped : goal.returns-in_ok-too_long-in-Err-TooLong-clause-stopped
+pub returns-in_ok-too_long-in-Err-TooLong-clause-stopped
+    : goal.returns-in_ok-too_long-in-Err-TooLong-clause-stopped
 returns-in_ok-too_long-in-Err-TooLong-clause-stopped g c = λ out more known new.
     let name = c.args.log.now in
     let cause = rw c.in-Err-TooLong.field-0-is at c.in-Err-TooLong.ensures.cause in
@@ -125,12 +127,14 @@ pub returns-in-Err-Untold-clause-told : goal.returns-in-Err-Untold-clause-told
 returns-in-Err-Untold-clause-told g c =
     rw c.in-Err-Untold.field-0-is at c.in-Err-Untold.ensures.untold
 
-pub returns-in_err-too_long-in-Err-TooLong-clause-told : goal.returns-in_err-too_long-in-Err-TooLong-clause-told
+pub returns-in_err-too_long-in-Err-TooLong-clause-told
+    : goal.returns-in_err-too_long-in-Err-TooLong-clause-told
 returns-in_err-too_long-in-Err-TooLong-clause-told g c =
     let p = err_from_is_err_and c.from_residual-in_err-too_long-in-Err-TooLong.result
     c.from_residual-in_err-too_long-in-Err-TooLong.ensures.1 in
     rw (p.1, p.2) (rw c.in-Err-TooLong.field-0-is at c.in-Err-TooLong.ensures.untold)
 
-pub returns-in_ok-too_long-in-Err-TooLong-clause-told : goal.returns-in_ok-too_long-in-Err-TooLong-clause-told
+pub returns-in_ok-too_long-in-Err-TooLong-clause-told
+    : goal.returns-in_ok-too_long-in-Err-TooLong-clause-told
 returns-in_ok-too_long-in-Err-TooLong-clause-told g c =
     rw c.in-Err-TooLong.field-0-is at c.in-Err-TooLong.ensures.untold

@@ -1,9 +1,9 @@
 use Rattle.std.proofs.Common.{◌≡◌, [], Result, Ok, Err, IfOk, ap, ◌∙◌, arith}
 use Rattle.rvs_machine.specs.Machine.{started}
 use Rattle.std.specs.Prelude.{map}
-use Rattle.rvs_cgf.specs.GroupView.{label_view}
+use Rattle.rvs_points.specs.PointView.{label_view}
 use Rattle.rvs_count.specs.Report.{report_of}
-use Rattle.rvs_count.specs.State.{CountState, Tallied, tally_of}
+use Rattle.rvs_index.specs.State.{CountState, Tallied, tally_of}
 use Rattle.rvs_log.proofs.Streams.{fed_of, none_waits}
 use Rattle.rvs_demo.specs.Program.{core, image}
 use Rattle.rvs_demo.proofs.Reported.{fed_report}

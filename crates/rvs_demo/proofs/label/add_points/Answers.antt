@@ -1,6 +1,6 @@
 use Rattle.std.proofs.Common.{Some, None, [], ◌∷◌, sym, ap, ◌∙◌, map, option_map, append-nil}
 use Rattle.std.proofs.lemmas.List.{map-append}
-use Rattle.rvs_cgf.specs.PointView.{point_view}
+use Rattle.rvs_points.specs.PointView.{point_view}
 use Rattle.rvs_demo.proofs.Points.{points_more}
 use Rattle.rvs_demo.proofs.label.add_points.Goals as goal
 use Rattle.rvs_demo.proofs.label.add_points.Goals.{in-None, in-Some+in_ok-push-in-Some}

@@ -1,5 +1,5 @@
 use Rattle.std.proofs.Common.{◌≡◌, ◌++◌, map, take}
-use Rattle.rvs_cgf.specs.PointView.{point_view}
+use Rattle.rvs_points.specs.PointView.{point_view}
 use Rattle.rvs_demo.specs.Label.{points_of}
 use Rattle.rvs_demo.proofs.label.add_points.Given as goal
 

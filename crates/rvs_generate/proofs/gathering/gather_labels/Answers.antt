@@ -1,13 +1,15 @@
 use Rattle.std.proofs.Common.{◌≡◌, ◌+◌, ◌++◌, ◌∷◌, ◌∙◌, List, [], drop, flat_map, ap, sym}
 use Rattle.std.proofs.Common.{append_assoc, append-nil}
-use Rattle.std.proofs.lemmas.List.{drop_more, drop_all}
+use Rattle.std.proofs.lemmas.List.{drop_more, drop_all, map-append}
 use Rattle.rvs_cgf.specs.Groups.{Label}
 use Rattle.rvs_cgf.specs.GroupView.{label_view}
 use Rattle.rvs_inputs.specs.GroupsView.{groups_view}
 use Rattle.rvs_generate.specs.GenerateTexts.{Totals, label_text, with_labels}
 use Rattle.rvs_generate.specs.GenerateView.{totals_view}
-use Rattle.rvs_generate.specs.Tests.{tests_of_label, tests_of}
+use Rattle.rvs_generate.specs.Tests.{held, tests_of_label, tests_of}
 use Rattle.rvs_generate.specs.declared.gathering.Test.{Test}
+use Rattle.rvs_generate.specs.declared.sources.Source.{Source}
+use Rattle.rvs_generate.specs.declared.sources.Source.TheVariants.{Held}
 use Rattle.rvs_generate.proofs.gathering.gather_labels.Goals as goal
 
 pub loop-label-preserved : goal.loop-label-preserved
@@ -16,6 +18,7 @@ loop-label-preserved c =
     let isa = c.args.isa.now in
     let rest = groups_view (drop (i + 1) c.args.labels.now) in
     let said = c.loop-label.said in
+    let label = label_view c.label-item.result in
     let here : groups_view (drop i c.args.labels.now) ≡ label_view c.label-item.result ∷ rest =
     ap groups_view (drop_more c.args.labels.now i _ c.loop-label-test.true)
     ∙ ap (λ l. label_view l ∷ rest) (sym c.label-item.is) in
@@ -28,10 +31,13 @@ loop-label-preserved c =
       totals = ap (λ (t : Totals). with_labels isa t rest) c.in_ok-gather_label.ensures.totals
           ∙ ap (λ ls. with_labels isa (totals_view said.totals) ls) (sym here)
           ∙ c.loop-label.invariant.totals;
-      tests = ap (λ (ts : List Test). ts ++ tests_of isa rest) c.in_ok-gather_label.ensures.tests
-          ∙ append_assoc c.loop-label.tests (tests_of_label isa (label_view c.label-item.result))
-          (tests_of isa rest)
-          ∙ ap (λ (ls : List Label). c.loop-label.tests ++ tests_of isa ls) (sym here)
+      tests = ap (λ (ts : List Source). ts ++ held (tests_of isa rest))
+          c.in_ok-gather_label.ensures.tests
+          ∙ append_assoc c.loop-label.tests (held (tests_of_label isa label))
+          (held (tests_of isa rest))
+          ∙ ap (λ (ss : List Source). c.loop-label.tests ++ ss)
+          (sym (map-append (λ (t : Test). Held t) (tests_of_label isa label) (tests_of isa rest)))
+          ∙ ap (λ (ls : List Label). c.loop-label.tests ++ held (tests_of isa ls)) (sym here)
           ∙ c.loop-label.invariant.tests;
       runs = c.in_ok-gather_label.ensures.runs c.loop-label.invariant.runs;
     }
@@ -56,5 +62,5 @@ returns-clause-tests c =
     let over : groups_view (drop c.loop-label.label-index c.args.labels.now) ≡ [] = ap groups_view
     (drop_all c.loop-label.label-index c.args.labels.now c.loop-label-test.false) in
     sym (append-nil c.loop-label.tests)
-    ∙ ap (λ (ls : List Label). c.loop-label.tests ++ tests_of isa ls) (sym over)
+    ∙ ap (λ (ls : List Label). c.loop-label.tests ++ held (tests_of isa ls)) (sym over)
     ∙ c.loop-label.invariant.tests

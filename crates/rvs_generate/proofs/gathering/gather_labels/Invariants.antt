@@ -2,7 +2,7 @@ use Rattle.std.proofs.Common.{◌≡◌, ◌++◌, All, drop, flat_map}
 use Rattle.rvs_inputs.specs.GroupsView.{groups_view}
 use Rattle.rvs_generate.specs.GenerateTexts.{none, label_text, with_labels}
 use Rattle.rvs_generate.specs.GenerateView.{totals_view}
-use Rattle.rvs_generate.specs.Tests.{IsRunnable, tests_of}
+use Rattle.rvs_generate.specs.Tests.{IsReady, held, tests_of}
 use Rattle.rvs_generate.proofs.gathering.gather_labels.Given as goal
 
 -- what the rest of the labels comes to is what all of them come to
@@ -12,7 +12,7 @@ invariant-loop-label l = record {
       ≡ flat_map (label_text l.isa) (groups_view l.labels);
   totals : with_labels l.isa (totals_view l.said.totals) (groups_view (drop l.label-index l.labels))
       ≡ with_labels l.isa none (groups_view l.labels);
-  tests : l.tests ++ tests_of l.isa (groups_view (drop l.label-index l.labels))
-      ≡ tests_of l.isa (groups_view l.labels);
-  runs : All (IsRunnable l.isa) l.tests;
+  tests : l.tests ++ held (tests_of l.isa (groups_view (drop l.label-index l.labels)))
+      ≡ held (tests_of l.isa (groups_view l.labels));
+  runs : All (IsReady l.isa) l.tests;
 }

@@ -2,7 +2,7 @@ use Rattle.std.proofs.Common.{List, map, sym, ap, subst, ◌∙◌}
 use Rattle.std.specs.Prelude.{All}
 use Rattle.rvs_cgf.specs.Groups.{Label}
 use Rattle.rvs_cgf.specs.GroupView.{label_view}
-use Rattle.rvs_cgf.specs.declared.group.Label.{Label as Code}
+use Rattle.rvs_points.specs.declared.group.Label.{Label as Code}
 use Rattle.rvs_inputs.specs.GroupFiles.{Inputs}
 use Rattle.rvs_generate.specs.Testable.{IsTestableIfSelected}
 use Rattle.rvs_inputs.proofs.PartsKept.{parted_map, all-parted}

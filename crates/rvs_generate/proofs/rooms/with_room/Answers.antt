@@ -3,7 +3,7 @@ use Rattle.std.specs.Prelude.{find, option_map}
 use Rattle.std.proofs.lemmas.Result.{err_from_is_err_and}
 use Rattle.rvs_plan.specs.Plan.{Ends}
 use Rattle.rvs_plan.proofs.Sequence.{Meets-no_memory}
-use Rattle.rvs_cgf.specs.declared.group.Label.{Label as Code}
+use Rattle.rvs_points.specs.declared.group.Label.{Label as Code}
 use Rattle.rvs_generate.specs.TestedInputs.{lacks_room, no_room, with_room}
 use Rattle.rvs_inputs.specs.GroupsView.{groups_view, inputs_view}
 use Rattle.rvs_inputs.proofs.Accepting.{Meets-accepted_by, Meets-refused_by}

@@ -1,5 +1,6 @@
-use Rattle.std.proofs.Common.{inr, ◌∙◌}
+use Rattle.std.proofs.Common.{◌∙◌}
 use Rattle.std.proofs.lemmas.Result.{err_from_is_err_and}
+use Rattle.rvs_fault.proofs.Refusing.{refuses}
 use Rattle.rvs_machine.proofs.WordLines.{words_go, words_stop}
 use Rattle.rvs_machine.proofs.reading.word_lines.Goals as goal
 
@@ -9,7 +10,7 @@ returns-in_err-word c =
     let e = words_stop c.args.count c.loop.counter c.loop-test.true c.loop.bytes.items c.loop.lines
     _
     c.in_err-word.ensures in
-    rw (p.1, p.2) (inr (c.loop.invariant ∙ e))
+    rw (p.1, p.2) (refuses (c.loop.invariant ∙ e))
 
 pub loop-preserved : goal.loop-preserved
 loop-preserved c =

@@ -1,5 +1,5 @@
 use Rattle.std.proofs.Common.{◌≡◌, ◌+◌, ◌≤◌, map, drop}
-use Rattle.rvs_cgf.specs.GroupView.{point_view}
+use Rattle.rvs_points.specs.PointView.{point_view}
 use Rattle.rvs_prop.specs.Report.{measured}
 use Rattle.rvs_prop.proofs.report.measured.Given as goal
 

@@ -1,6 +1,6 @@
 use Rattle.std.proofs.Common.{rules, ◌≡◌, ◌++◌, List, ℕ, codes, ap, ◌∙◌}
 use Rattle.std.proofs.lemmas.Result.{on_ok_weaker}
-use Rattle.rvs_cgf.specs.GroupView.{point_view}
+use Rattle.rvs_points.specs.PointView.{point_view}
 use Rattle.rvs_prop.specs.Report.{unmeasured_line}
 use Rattle.rvs_prop.proofs.report.push_unmeasured.Goals as goal
 

@@ -15,12 +15,14 @@ use Rattle.rvs_report.proofs.reviewing.find_signature.Goals as goal
 within : (words bytes : List ℕ) → length bytes ≤ signature_limit
     → found_on words (Some bytes) ≡ judged_left words bytes
 within words bytes short = cond-false (nat_lt signature_limit (length bytes))
-    (found_open state.TooLong) (judged_left words bytes) (le-ltb signature_limit (length bytes) short)
+    (found_open state.TooLong) (judged_left words bytes)
+    (le-ltb signature_limit (length bytes) short)
 
 beyond : (words bytes : List ℕ) → signature_limit < length bytes
     → found_on words (Some bytes) ≡ found_open state.TooLong
 beyond words bytes long = cond-true (nat_lt signature_limit (length bytes))
-    (found_open state.TooLong) (judged_left words bytes) (lt-ltb signature_limit (length bytes) long)
+    (found_open state.TooLong) (judged_left words bytes)
+    (lt-ltb signature_limit (length bytes) long)
 
 pub returns-in_err-file : goal.returns-in_err-file
 returns-in_err-file g c = λ out.

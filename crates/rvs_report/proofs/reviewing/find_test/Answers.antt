@@ -7,12 +7,14 @@ use Rattle.rvs_plan.specs.declared.stop.Stop.{Stop}
 use Rattle.rvs_plan.proofs.Sequence.{Meets-then, Meets-stop, Meets-gives, Meets-no_memory}
 use Rattle.rvs_insn.specs.Isa.{Isa}
 use Rattle.rvs_page.specs.declared.shown.State.TheVariants as state
+use Rattle.rvs_reference.specs.TestRun.{NamesText}
 use Rattle.rvs_generate.specs.TestFiles.{files_of}
 use Rattle.rvs_report.specs.Findings.{found_open, asks_like, if_like, finds_words, finds_test}
 use Rattle.rvs_generate.specs.declared.gathering.Test.{Test}
 use Rattle.rvs_report.specs.declared.reviewing.Found.{Found}
 use Rattle.rvs_report.specs.declared.reviewing.Likeness.{Likeness}
 use Rattle.rvs_generate.specs.declared.test_files.TestFiles.{TestFiles}
+use Rattle.rvs_generate.proofs.Paths.{names-text}
 use Rattle.rvs_report.proofs.reviewing.find_test.Goals as goal
 
 -- what follows when the test is read
@@ -80,3 +82,7 @@ returns g c = λ out.
     by_files files isa c.args.work.now test _ _ _ c.in_ok-files.ensures
     (Meets-then (next files isa test) (rw (text, c.in-Same.is) at (c.in_ok-read_like.ensures out))
     (c.find_words.ensures out))
+
+pub find_words-requires-clause-text : goal.find_words-requires-clause-text
+find_words-requires-clause-text g c = subst (λ (files : TestFiles). NamesText files.test)
+    (sym c.in_ok-files.ensures) (names-text c.args.work.now c.args.test.now.name)

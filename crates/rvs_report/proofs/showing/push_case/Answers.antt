@@ -4,7 +4,7 @@ use Rattle.std.specs.Option.{option_copied}
 use Rattle.std.proofs.lemmas.Result.{on_ok_weaker}
 use Rattle.rvs_base.specs.Lines.{cut_lines}
 use Rattle.rvs_cgf.specs.GroupView.{point_view}
-use Rattle.rvs_cgf.specs.declared.group.Point.{Point}
+use Rattle.rvs_points.specs.declared.group.Point.{Point}
 use Rattle.rvs_page.specs.declared.shown.Case.{Case}
 use Rattle.rvs_report.specs.Showing.{shown_case}
 use Rattle.rvs_report.proofs.Shows.{point_got}

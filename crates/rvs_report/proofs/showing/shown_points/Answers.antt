@@ -1,7 +1,7 @@
 use Rattle.std.proofs.Common.{◌≡◌, ◌<◌, ◌+◌, ◌∷◌, ◌++◌, List, [], length, map, drop, get_or, ap}
 use Rattle.std.proofs.Common.{◌∙◌, arith}
 use Rattle.rvs_cgf.specs.GroupView.{point_view}
-use Rattle.rvs_cgf.specs.declared.group.Point.{Point}
+use Rattle.rvs_points.specs.declared.group.Point.{Point}
 use Rattle.rvs_page.specs.declared.shown.Point.{Point as ShownPoint}
 use Rattle.rvs_test_text.specs.declared.claim.Claim.{Claim}
 use Rattle.rvs_generate.specs.GenerateTexts.{case_at}

@@ -1,6 +1,6 @@
 use Rattle.std.proofs.Common.{◌≡◌, ◌+◌, ◌++◌, List, map, drop, get_or, ap, ◌∙◌}
 use Rattle.rvs_cgf.specs.GroupView.{skipped_view}
-use Rattle.rvs_cgf.specs.declared.group.Skipped.{Skipped}
+use Rattle.rvs_points.specs.declared.group.Skipped.{Skipped}
 use Rattle.rvs_page.specs.declared.shown.Skipped.{Skipped as ShownSkipped}
 use Rattle.rvs_report.specs.Showing.{shown_skipped}
 use Rattle.rvs_report.proofs.Shows.{entries_more}

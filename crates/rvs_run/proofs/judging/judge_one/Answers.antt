@@ -1,17 +1,33 @@
 use Rattle.std.proofs.lemmas.Result.{err_from_is_err_and}
 use Rattle.rvs_plan.proofs.Sequence.{Meets-then, Meets-stop, Meets-weaker}
-use Rattle.rvs_run.specs.RunTests.{announces}
+use Rattle.rvs_run.specs.RunTests.{announces, announces_made}
+use Rattle.rvs_run.specs.RunView.{bench_view}
+use Rattle.rvs_generate.specs.Tests.{source_name}
 use Rattle.rvs_run.proofs.judging.judge_one.Goals as goal
+
+pub returns-in_err-made : goal.returns-in_err-made
+returns-in_err-made g c =
+    let out = g.O.Sink.state c.args.out.now in
+    let p = err_from_is_err_and c.from_residual.result c.from_residual.ensures.1 in
+    rw (p.1, p.2) (Meets-weaker (Meets-stop
+    (announces_made (bench_view c.args.bench.now) c.args.source.now) (c.in_err-made.ensures out)))
 
 pub returns-in_err-verdict : goal.returns-in_err-verdict
 returns-in_err-verdict g c =
-    let p = err_from_is_err_and c.from_residual.result c.from_residual.ensures.1 in
-    rw (p.1, p.2) (Meets-stop (announces c.args.test.now.name)
-    (c.in_err-verdict.ensures (g.O.Sink.state c.args.out.now)))
+    let out = g.O.Sink.state c.args.out.now in
+    let source = c.args.source.now in
+    let p = err_from_is_err_and c.from_residual-in_err-verdict.result
+    c.from_residual-in_err-verdict.ensures.1 in
+    rw (p.1, p.2) (Meets-then (announces_made (bench_view c.args.bench.now) source)
+    (Meets-weaker (c.in_ok-made.ensures out))
+    (Meets-stop (announces (source_name source)) (c.in_err-verdict.ensures out)))
 
 pub returns : goal.returns
 returns g c =
+    let out = g.O.Sink.state c.args.out.now in
+    let source = c.args.source.now in
     let put =
-    rw c.as_str.ensures at (c.print_verdict.ensures (g.H.Host.state c.judge_test.new.host)) in
-    Meets-then (announces c.args.test.now.name)
-    (c.in_ok-verdict.ensures (g.O.Sink.state c.args.out.now)) (Meets-weaker put)
+    rw c.name_of.ensures at (c.print_verdict.ensures (g.H.Host.state c.judge_made.new.host)) in
+    Meets-then (announces_made (bench_view c.args.bench.now) source)
+    (Meets-weaker (c.in_ok-made.ensures out))
+    (Meets-then (announces (source_name source)) (c.in_ok-verdict.ensures out) (Meets-weaker put))

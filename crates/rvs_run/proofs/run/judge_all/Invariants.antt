@@ -7,12 +7,13 @@ use Rattle.rvs_run.specs.RunView.{bench_view}
 use Rattle.rvs_run.proofs.run.judge_all.Given as goal
 
 -- what the rest of the tests comes to is what all of them come to
-abbrev pub invariant-loop-test : goal.invariant-loop-test
-invariant-loop-test g l = record {
+abbrev pub invariant-loop-source : goal.invariant-loop-source
+invariant-loop-source g l = record {
   met : (new : World) (result : Result ℕ Stop)
-      → MeetsWith IsAnswer (judges_all (bench_view l.bench) l.passed (drop l.test-index l.tests))
+      → MeetsWith IsAnswer
+      (judges_all (bench_view l.bench) l.passed (drop l.source-index l.sources))
       (world (g.H.Host.state l.host) (g.O.Sink.state l.out)) new result
-      → MeetsWith IsAnswer (judges_all (bench_view l.bench) 0 l.tests)
+      → MeetsWith IsAnswer (judges_all (bench_view l.bench) 0 l.sources)
       (world (g.H.Host.state l.fn.host) (g.O.Sink.state l.fn.out)) new result;
-  some : l.passed ≤ l.test-index;
+  some : l.passed ≤ l.source-index;
 }

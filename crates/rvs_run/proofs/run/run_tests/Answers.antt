@@ -12,9 +12,9 @@ use Rattle.rvs_inputs.specs.GroupFiles.{Inputs}
 use Rattle.rvs_inputs.specs.GroupsView.{inputs_view}
 use Rattle.rvs_generate.specs.GenerateTexts.{listing}
 use Rattle.rvs_inputs.specs.DeviceInput.{device_file}
-use Rattle.rvs_generate.specs.Tests.{tests_of}
+use Rattle.rvs_generate.specs.Tests.{tests_of, held}
 use Rattle.rvs_run.specs.RunTests.{Bench, judges_tests, RunInputs, bench_of, runs}
-use Rattle.rvs_generate.specs.declared.gathering.Test.{Test}
+use Rattle.rvs_generate.specs.declared.sources.Source.{Source}
 use Rattle.rvs_run.proofs.run.run_tests.Goals as goal
 
 abbrev with_device : Inputs → Told → Plan RunInputs
@@ -28,7 +28,7 @@ inputs_with inputs told = record { groups = inputs; device = told }
 
 -- what follows when the listing is put
 abbrev judging : Bench → Inputs → Unit {0} → Plan Finish
-judging bench inputs done = judges_tests bench (tests_of bench.isa inputs.groups)
+judging bench inputs done = judges_tests bench (held (tests_of bench.isa inputs.groups))
 
 pub returns-in_err-inputs : goal.returns-in_err-inputs
 returns-in_err-inputs g c =
@@ -110,11 +110,11 @@ returns g c =
     world (g.H.Host.state c.judge_tests.new.host) (g.O.Sink.state c.judge_tests.new.out) in
     let line : c.as_bytes.result.now ≡ listing inputs.isa inputs.groups =
     c.as_bytes.ensures.value ∙ c.as_str.ensures ∙ c.in_ok-gathered.ensures.text in
-    let tests : c.as_slice.result.now ≡ tests_of inputs.isa inputs.groups =
+    let tests : c.as_slice.result.now ≡ held (tests_of inputs.isa inputs.groups) =
     c.as_slice.ensures ∙ c.in_ok-gathered.ensures.tests in
     let one = subst (λ (b : Bench). MeetsWith IsAnswer (judges_tests b c.as_slice.result.now) old
     new c.judge_tests.result) c.in_ok-bench.ensures c.judge_tests.ensures in
-    let judged = subst (λ (ts : List Test). MeetsWith IsAnswer (judges_tests bench ts) old new
+    let judged = subst (λ (ts : List Source). MeetsWith IsAnswer (judges_tests bench ts) old new
     c.judge_tests.result) tests one in
     Meets-then next (Meets-weaker (Meets-then (device_behind c.args.asked.now.device)
     (c.in_ok-inputs.ensures.met out) (Meets-then (with_device inputs)

@@ -1,4 +1,5 @@
-use Rattle.std.proofs.Common.{List, subst}
+use Rattle.std.proofs.Common.{◌≡◌, ◌∙◌, All, List, [], ◌∷◌, ap, sym, subst}
+use Rattle.std.proofs.lemmas.List.Elements.{All-cons, All-nil}
 use Rattle.std.proofs.lemmas.Result.{err_from_is_err_and}
 use Rattle.rvs_plan.specs.World.{world, IsAnswer}
 use Rattle.rvs_plan.specs.Meets.{MeetsWith}
@@ -9,9 +10,14 @@ use Rattle.rvs_isa.specs.declared.accepted_spec.AcceptedSpec.{AcceptedSpec}
 use Rattle.rvs_device.specs.DeviceFile.{Told}
 use Rattle.rvs_device.specs.DeviceView.{told}
 use Rattle.rvs_select.specs.declared.database.Entry.{Entry}
-use Rattle.rvs_run.specs.RunTests.{Bench}
-use Rattle.rvs_run.specs.RunDatabase.{chosen, judges_database, DatabaseInputs, with_device}
-use Rattle.rvs_run.specs.RunDatabase.{device_behind, database_behind, database_bench, runs_database}
+use Rattle.rvs_run.specs.RunTests.{Bench, judges_tests}
+use Rattle.rvs_run.specs.RunDatabase.{chosen, DatabaseInputs, with_device}
+use Rattle.rvs_run.specs.RunDatabase.{device_behind, database_behind, database_bench}
+use Rattle.rvs_run.specs.RunDatabase.{runs_database}
+use Rattle.rvs_generate.specs.Tests.{to_read, IsReady}
+use Rattle.rvs_generate.specs.declared.sources.Given.{Given}
+use Rattle.rvs_generate.specs.declared.sources.Source.{Source}
+use Rattle.rvs_generate.specs.declared.sources.Source.TheVariants.{Read}
 use Rattle.rvs_run.proofs.run_database.run_selected.Goals as goal
 
 abbrev inputs_with : Isa → List Entry → Told → DatabaseInputs
@@ -69,6 +75,24 @@ returns-in_err-bench g c =
     (Meets-then (with_device isa entries) (c.in_ok-device.ensures out) (Meets-gives inputs w))))
     (Meets-no_memory (next inputs) w)))
 
+pub returns-in_err-sources : goal.returns-in_err-sources
+returns-in_err-sources g c =
+    let asked = c.args.asked.now in
+    let out = g.O.Sink.state c.args.out.now in
+    let isa = c.in_ok-said.said.spec in
+    let entries = c.in_ok-database.database in
+    let inputs = inputs_with isa entries (told c.in_ok-device.device) in
+    let w = world (g.H.Host.state c.read_device_file.new.host) out in
+    let next = runs_database asked.program asked.work in
+    let p = err_from_is_err_and c.from_residual-in_err-sources.result
+    c.from_residual-in_err-sources.ensures.1 in
+    rw (p.1, p.2) (Meets-weaker (Meets-then next
+    (Meets-then (λ (said : AcceptedSpec). database_behind asked said.spec)
+    (c.in_ok-said.ensures out)
+    (Meets-then (device_behind asked.device isa) (c.in_ok-database.ensures out)
+    (Meets-then (with_device isa entries) (c.in_ok-device.ensures out) (Meets-gives inputs w))))
+    (Meets-no_memory (next inputs) w)))
+
 pub returns : goal.returns
 returns g c =
     let asked = c.args.asked.now in
@@ -81,16 +105,31 @@ returns g c =
     let next = runs_database asked.program asked.work in
     let bench = database_bench asked.program asked.work inputs in
     let old = world host (g.O.Sink.state c.args.out.now) in
-    let new = world (g.H.Host.state c.judge_database.new.host)
-    (g.O.Sink.state c.judge_database.new.out) in
+    let new = world (g.H.Host.state c.judge_tests.new.host)
+    (g.O.Sink.state c.judge_tests.new.out) in
+    let sources : c.as_slice-2.result.now ≡ to_read (chosen 0 entries) =
+    c.as_slice-2.ensures ∙ c.in_ok-sources.ensures
+    ∙ ap (λ (es : List Entry). to_read (chosen 0 es)) c.as_slice.ensures in
     let one = subst (λ (b : Bench). MeetsWith IsAnswer
-    (judges_database b (chosen 0 c.as_slice.result.now)) old new c.judge_database.result)
-    c.in_ok-bench.ensures c.judge_database.ensures in
-    let judged = subst (λ (es : List Entry). MeetsWith IsAnswer
-    (judges_database bench (chosen 0 es)) old new c.judge_database.result) c.as_slice.ensures one in
+    (judges_tests b c.as_slice-2.result.now) old new c.judge_tests.result)
+    c.in_ok-bench.ensures c.judge_tests.ensures in
+    let judged = subst (λ (ss : List Source). MeetsWith IsAnswer
+    (judges_tests bench ss) old new c.judge_tests.result) sources one in
     Meets-then next (Meets-weaker
     (Meets-then (λ (said : AcceptedSpec). database_behind asked said.spec)
     (c.in_ok-said.ensures out)
     (Meets-then (device_behind asked.device isa) (c.in_ok-database.ensures out)
     (Meets-then (with_device isa entries) (c.in_ok-device.ensures out) (Meets-gives inputs w)))))
     judged
+
+-- tests of a database are as they come
+all-read : (isa : Isa) (given : List Given) → All (IsReady isa) (to_read given)
+all-read isa [] = All-nil (IsReady isa)
+all-read isa (g ∷ given) = All-cons (IsReady isa) (Read g) (to_read given) tt (all-read isa given)
+
+pub judge_tests-requires : goal.judge_tests-requires
+judge_tests-requires g c =
+    let isa = c.in_ok-bench.bench.isa in
+    subst (λ (ss : List Source). All (IsReady isa) ss)
+    (sym (c.as_slice-2.ensures ∙ c.in_ok-sources.ensures))
+    (all-read isa (chosen 0 c.as_slice.result.now))

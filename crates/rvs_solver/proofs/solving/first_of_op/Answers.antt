@@ -1,7 +1,7 @@
 use Rattle.std.proofs.Common.{◌≡◌, sym, subst}
 use Rattle.std.specs.Prelude.{IfOk, find}
-use Rattle.rvs_cgf.specs.declared.group.Meaning.{Meaning}
-use Rattle.rvs_cgf.specs.GroupView.{meaning_view}
+use Rattle.rvs_points.specs.declared.group.Meaning.{Meaning}
+use Rattle.rvs_points.specs.PointView.{meaning_view}
 use Rattle.rvs_solver.specs.Truth.{holds}
 use Rattle.rvs_solver.specs.Choices.{choices}
 use Rattle.rvs_solver.specs.Point.{hits, constants_of}

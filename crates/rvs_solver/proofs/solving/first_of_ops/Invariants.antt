@@ -1,6 +1,6 @@
 use Rattle.std.proofs.Common.{◌≡◌, ◌≤◌, ◌+◌, drop, take}
 use Rattle.std.specs.Prelude.{find, flat_map, sum_by}
-use Rattle.rvs_cgf.specs.GroupView.{meaning_view}
+use Rattle.rvs_points.specs.PointView.{meaning_view}
 use Rattle.rvs_solver.specs.Choices.{choices}
 use Rattle.rvs_solver.specs.Point.{hits, constants_of}
 use Rattle.rvs_solver.specs.Bound.{bound_of}

@@ -5,8 +5,8 @@ use Rattle.rvs_insn.specs.Isa.{Isa}
 use Rattle.rvs_insn.specs.Memory.{Memory}
 use Rattle.rvs_insn.specs.Table.{row}
 use Rattle.rvs_insn.specs.Fields.{IsRegister}
-use Rattle.rvs_cgf.specs.GroupView.{meaning_view}
-use Rattle.rvs_cgf.specs.Hits.{steps_of}
+use Rattle.rvs_points.specs.PointView.{meaning_view}
+use Rattle.rvs_points.specs.Hits.{steps_of}
 use Rattle.rvs_solver.specs.Least.{at_rd}
 use Rattle.rvs_solver.specs.Point.{hits}
 use Rattle.rvs_solver.proofs.Low.{rds_low, rs1s_low, rs2s_low}

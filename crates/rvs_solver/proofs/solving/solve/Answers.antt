@@ -1,7 +1,7 @@
 use Rattle.std.proofs.Common.{◌≡◌, ◌∙◌, ◌≤◌, ◌+◌, List, get_or, ap, subst}
 use Rattle.std.specs.Prelude.{IfSome, IfNone}
 use Rattle.rvs_insn.specs.declared.op.Op.{Op}
-use Rattle.rvs_cgf.specs.GroupView.{meaning_view, point_view, label_view}
+use Rattle.rvs_points.specs.PointView.{meaning_view, point_view, label_view}
 use Rattle.rvs_solver.specs.Solving.{first_meant, first_at, SolvesAs, IsLeastAt, IsSolvableAs}
 use Rattle.rvs_solver.specs.Solving.{IsSolvableAt, bound_meant}
 use Rattle.rvs_solver.proofs.Labels.{point_there, valid_there, first_there, least_there, none_there}

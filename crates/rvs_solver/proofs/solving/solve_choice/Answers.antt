@@ -1,5 +1,5 @@
 use Rattle.std.proofs.Common.{sym, ◌∙◌}
-use Rattle.rvs_cgf.specs.GroupView.{point_view}
+use Rattle.rvs_points.specs.PointView.{point_view}
 use Rattle.rvs_solver.proofs.Meant.{least_choice}
 use Rattle.rvs_solver.proofs.solving.solve_choice.Goals as goal
 

@@ -1,4 +1,4 @@
-use Rattle.rvs_cgf.specs.GroupView.{meaning_view}
+use Rattle.rvs_points.specs.PointView.{meaning_view}
 use Rattle.rvs_solver.specs.Bound.{bound}
 use Rattle.rvs_solver.proofs.Answer.{none_clause}
 use Rattle.rvs_solver.proofs.OneWord.{words_clause}

@@ -12,7 +12,8 @@ returns-in-Ok g c = rw c.in-Ok.is (λ told is later.
 pub returns-in-Err-Stopped : goal.returns-in-Err-Stopped
 returns-in-Err-Stopped g c = rw (c.in-Err-Stopped.is, c.in-Err-Stopped.field-0-is)
     (λ told is later.
-    subst (λ (s : SinkState). Concludes (Err c.in-Err-Stopped.stop) c.conclude-in-Err-Stopped.result s
+    subst (λ (s : SinkState). Concludes (Err c.in-Err-Stopped.stop)
+    c.conclude-in-Err-Stopped.result s
     (g.E.Sink.state c.conclude-in-Err-Stopped.new.err)) is c.conclude-in-Err-Stopped.ensures)
 
 pub returns-in-Err-Untold : goal.returns-in-Err-Untold

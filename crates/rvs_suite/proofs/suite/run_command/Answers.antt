@@ -34,7 +34,8 @@ returns-in-Validate-clause-told g c = rw c.in-Validate.is
 
 pub returns-in-Normalize-clause-done : goal.returns-in-Normalize-clause-done
 returns-in-Normalize-clause-done g c =
-    rw c.in-Normalize.is (performs-unlost _ c.unlost-in-Normalize.result c.unlost-in-Normalize.ensures
+    rw c.in-Normalize.is (performs-unlost _ c.unlost-in-Normalize.result
+    c.unlost-in-Normalize.ensures
     (Performs-meets (λ is. cc) (λ count is. cc) c.normalize_files.ensures))
 
 pub returns-in-Normalize-clause-told : goal.returns-in-Normalize-clause-told
@@ -52,7 +53,8 @@ returns-in-Generate-clause-told g c = rw c.in-Generate.is
 
 pub returns-in-Reference-clause-done : goal.returns-in-Reference-clause-done
 returns-in-Reference-clause-done g c =
-    rw c.in-Reference.is (performs-unlost _ c.unlost-in-Reference.result c.unlost-in-Reference.ensures
+    rw c.in-Reference.is (performs-unlost _ c.unlost-in-Reference.result
+    c.unlost-in-Reference.ensures
     (Performs-meets (λ is. cc) (λ count is. cc) c.run_reference.ensures))
 
 pub returns-in-Reference-clause-told : goal.returns-in-Reference-clause-told
@@ -70,7 +72,8 @@ returns-in-Run-clause-told g c = rw c.in-Run.is
 
 pub returns-in-RunDatabase-clause-done : goal.returns-in-RunDatabase-clause-done
 returns-in-RunDatabase-clause-done g c =
-    rw c.in-RunDatabase.is (performs-unlost _ c.unlost-in-RunDatabase.result c.unlost-in-RunDatabase.ensures
+    rw c.in-RunDatabase.is (performs-unlost _ c.unlost-in-RunDatabase.result
+    c.unlost-in-RunDatabase.ensures
     (Performs-meets (λ is. cc) (λ count is. cc) c.run_selected.ensures))
 
 pub returns-in-RunDatabase-clause-told : goal.returns-in-RunDatabase-clause-told

@@ -1,5 +1,5 @@
 use Rattle.std.proofs.Common.{◌∙◌, arith}
-use Rattle.rvs_cgf.specs.GroupView.{label_view}
+use Rattle.rvs_points.specs.PointView.{label_view}
 use Rattle.rvs_test.specs.Found.{found_view}
 use Rattle.rvs_test.proofs.Loops.{found_none, found_more}
 use Rattle.rvs_test.proofs.Ends.{cost_turn, cost_within, end_is, end_at, all_cases, all_claims}

@@ -1,6 +1,6 @@
 use Rattle.std.proofs.Common.{◌≡◌, ◌≤◌, ◌+◌, take}
 use Rattle.std.specs.Prelude.{sum_by}
-use Rattle.rvs_cgf.specs.GroupView.{label_view}
+use Rattle.rvs_points.specs.PointView.{label_view}
 use Rattle.rvs_solver.specs.Solving.{bound_of_point}
 use Rattle.rvs_test.specs.Found.{found_view, found_before}
 use Rattle.rvs_test.proofs.finding.find_cases.Given as goal

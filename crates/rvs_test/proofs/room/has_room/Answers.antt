@@ -1,5 +1,5 @@
 use Rattle.std.proofs.Common.{◌≡◌, ◌≤◌, ◌∙◌, List, length, true, sym, ap, subst}
-use Rattle.rvs_cgf.specs.GroupView.{label_view}
+use Rattle.rvs_points.specs.PointView.{label_view}
 use Rattle.rvs_solver.specs.declared.solved.Solved.{Solved}
 use Rattle.rvs_test_text.specs.Claim.{AreReady}
 use Rattle.rvs_test.specs.Made.{cases_of}

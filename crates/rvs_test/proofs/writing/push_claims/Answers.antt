@@ -1,5 +1,5 @@
 use Rattle.std.proofs.Common.{◌+◌, ◌++◌, ◌∷◌, [], ◌∙◌, map, take, arith}
-use Rattle.rvs_cgf.specs.GroupView.{label_view}
+use Rattle.rvs_points.specs.PointView.{label_view}
 use Rattle.rvs_test_text.specs.TestText.{ended, line_of_claim}
 use Rattle.rvs_test.specs.Made.{named_at}
 use Rattle.rvs_test.proofs.Grows.{grows, same_at, claim_more}

@@ -1,4 +1,5 @@
-use Rattle.rvs_uses.proofs.Parting.{parts-read-all, parts-are-apart, parts-list, parts-tell}
+use Rattle.rvs_uses.proofs.PartsApart.{parts-are-apart}
+use Rattle.rvs_uses.proofs.Parting.{parts-read-all, parts-list, parts-tell}
 use Rattle.rvs_uses.proofs.Parting.{parts-count, parts-pass, databases-are-parted}
 use Rattle.rvs_uses.proofs.laws.parts_are_the_whole_run.Goals as goal
 

@@ -3,16 +3,16 @@ use Rattle.std.proofs.Common.{◌∙◌, arith}
 use Rattle.std.proofs.Common.{length}
 use Rattle.rvs_log.specs.Entries.{entry_at}
 use Rattle.rvs_insn.specs.Fields.{Fields}
-use Rattle.rvs_cgf.specs.declared.group.Label.{Label}
-use Rattle.rvs_count.specs.Counting.{aims_in, decoded, is_in}
-use Rattle.rvs_count.specs.Runs.{run_with}
+use Rattle.rvs_points.specs.declared.group.Label.{Label}
+use Rattle.rvs_index.specs.Counting.{aims_in, decoded, is_in}
+use Rattle.rvs_index.specs.Runs.{run_with}
 use Rattle.rvs_count.specs.Sound.{tallied}
-use Rattle.rvs_count.specs.State.{Tallied, added, any_cross, counts_with, ends_run, followed}
-use Rattle.rvs_count.specs.State.{with_entry}
-use Rattle.rvs_count.proofs.Crossing.{aims_sized}
-use Rattle.rvs_count.proofs.Following.{followed_all, followed_nil, followed_none}
-use Rattle.rvs_count.proofs.Hitting.{added_length, added_low, both_counted, entry_counted, none_hit}
-use Rattle.rvs_count.proofs.Hitting.{one_counted}
+use Rattle.rvs_index.specs.State.{Tallied, added, any_cross, counts_with, ends_run, followed}
+use Rattle.rvs_index.specs.State.{with_entry}
+use Rattle.rvs_index.proofs.Crossing.{aims_sized}
+use Rattle.rvs_index.proofs.Following.{followed_all, followed_nil, followed_none}
+use Rattle.rvs_index.proofs.Hitting.{added_length, added_low, both_counted, entry_counted, none_hit}
+use Rattle.rvs_index.proofs.Hitting.{one_counted}
 use Rattle.rvs_count.proofs.tally.Tally.count.Goals as goal
 use Rattle.rvs_count.proofs.tally.Tally.count.Given.{Over}
 use Rattle.rvs_count.proofs.tally.Tally.count.Goals.{After-add_run, Else-is_any}

@@ -1,6 +1,6 @@
 use Rattle.std.proofs.Common.{ℕ, [], ap, ◌∙◌, refl, replicate}
-use Rattle.rvs_count.specs.State.{Tallied, tally_of}
-use Rattle.rvs_count.proofs.Built.{new_tally}
+use Rattle.rvs_index.specs.State.{Tallied, tally_of}
+use Rattle.rvs_index.proofs.Built.{new_tally}
 use Rattle.rvs_count.proofs.tally.TallyConsumer.restart.Goals as goal
 
 pub returns : goal.returns

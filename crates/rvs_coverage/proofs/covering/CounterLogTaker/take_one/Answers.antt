@@ -1,10 +1,10 @@
 use Rattle.std.proofs.Common.{◌≡◌, ℕ, List, [], ◌∷◌, ◌++◌, length, ap, ◌∙◌}
 use Rattle.std.proofs.lemmas.Result.{err_from_is_err_and}
 use Rattle.rvs_base.specs.declared.asked.Window.{Window as Span}
-use Rattle.rvs_cgf.specs.declared.group.Label.{Label}
+use Rattle.rvs_points.specs.declared.group.Label.{Label}
 use Rattle.rvs_log.specs.Taken.{ended}
 use Rattle.rvs_log.proofs.Streams.{begun_is}
-use Rattle.rvs_count.specs.State.{CountState, state_of, tally_of}
+use Rattle.rvs_index.specs.State.{CountState, state_of, tally_of}
 use Rattle.rvs_count.proofs.Ends.{counted_all, counted_instructions, counted_labels}
 use Rattle.rvs_count.proofs.Ends.{counted_windows}
 use Rattle.rvs_count.proofs.Streams.{tally_told}

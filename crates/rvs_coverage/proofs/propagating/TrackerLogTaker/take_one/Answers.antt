@@ -1,7 +1,7 @@
 use Rattle.std.proofs.Common.{◌≡◌, ℕ, List, [], ◌∷◌, ◌++◌, length, ap, ◌∙◌}
 use Rattle.std.proofs.lemmas.Result.{err_from_is_err_and}
 use Rattle.rvs_base.specs.declared.asked.Window.{Window as Span}
-use Rattle.rvs_cgf.specs.declared.group.Label.{Label}
+use Rattle.rvs_points.specs.declared.group.Label.{Label}
 use Rattle.rvs_log.specs.Taken.{ended}
 use Rattle.rvs_log.proofs.Streams.{begun_is}
 use Rattle.rvs_prop.specs.State.{TrackState, state_of, trail_of}

@@ -1,5 +1,5 @@
 use Rattle.std.proofs.Common.{◌≡◌, ℕ, List, [], ap, ◌∙◌, length, refl, replicate}
-use Rattle.rvs_count.specs.Counting.{aims_in}
+use Rattle.rvs_index.specs.Counting.{aims_in}
 use Rattle.rvs_prop.specs.State.{Trailed, trail_of}
 use Rattle.rvs_prop.proofs.Lows.{zeros_all, zeros_are_low, zeros_count}
 use Rattle.rvs_prop.proofs.Starts.{new_trail}

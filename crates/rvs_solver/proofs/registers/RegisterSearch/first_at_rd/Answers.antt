@@ -1,7 +1,7 @@
 use Rattle.std.proofs.Common.{◌∙◌, sym, arith}
 use Rattle.std.specs.Prelude.{find, flat_map}
 use Rattle.rvs_insn.specs.Table.{row}
-use Rattle.rvs_cgf.specs.GroupView.{meaning_view}
+use Rattle.rvs_points.specs.PointView.{meaning_view}
 use Rattle.rvs_solver.specs.RegisterWalk.{hits_of, with_rs1}
 use Rattle.rvs_cross.proofs.Searching.{turn_found, turn_none}
 use Rattle.rvs_solver.proofs.Others.{other_rd}

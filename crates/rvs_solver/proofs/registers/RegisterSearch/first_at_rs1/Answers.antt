@@ -1,6 +1,6 @@
 use Rattle.std.proofs.Common.{◌∙◌, sym}
 use Rattle.rvs_insn.specs.Table.{row}
-use Rattle.rvs_cgf.specs.GroupView.{meaning_view}
+use Rattle.rvs_points.specs.PointView.{meaning_view}
 use Rattle.rvs_solver.proofs.Others.{other_rs1}
 use Rattle.rvs_solver.proofs.registers.RegisterSearch.first_at_rs1.Goals as goal
 

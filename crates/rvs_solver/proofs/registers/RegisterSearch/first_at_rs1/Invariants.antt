@@ -1,8 +1,8 @@
 use Rattle.std.proofs.Common.{◌≡◌, ◌≤◌, ◌+◌, ◌*◌, map, drop}
 use Rattle.std.specs.Prelude.{find}
 use Rattle.rvs_insn.specs.Table.{row}
-use Rattle.rvs_cgf.specs.GroupView.{meaning_view}
-use Rattle.rvs_cgf.specs.Hits.{steps_of}
+use Rattle.rvs_points.specs.PointView.{meaning_view}
+use Rattle.rvs_points.specs.Hits.{steps_of}
 use Rattle.rvs_solver.specs.Least.{least}
 use Rattle.rvs_solver.specs.RegisterWalk.{hits_of, with_rs1}
 use Rattle.rvs_solver.proofs.registers.RegisterSearch.first_at_rs1.Given as goal

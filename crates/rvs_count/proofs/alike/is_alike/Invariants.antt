@@ -1,5 +1,0 @@
-use Rattle.rvs_count.specs.Shared.{AreAlike}
-use Rattle.rvs_count.proofs.alike.is_alike.Given as goal
-
-abbrev pub invariant-loop-bucket : goal.invariant-loop-bucket
-invariant-loop-bucket l = AreAlike l.bucket l.cells l.left l.right

@@ -1,9 +1,0 @@
-use Rattle.std.proofs.Common.{arith, sym}
-use Rattle.rvs_count.specs.Counting.{aims_in}
-use Rattle.rvs_count.proofs.Lengths.{too_short}
-use Rattle.rvs_count.proofs.crosses.Crosses.add_last.Goals as goal
-
-pub returns-else-count-run : goal.returns-else-count-run
-returns-else-count-run c =
-    sym (too_short c.args.count c.args.run.now (aims_in c.args.self.now) c.args.counts.now
-    (omega (arith, c.if-count-run.false)))

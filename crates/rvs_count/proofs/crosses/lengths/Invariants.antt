@@ -1,7 +1,0 @@
-use Rattle.std.proofs.Common.{◌≡◌}
-use Rattle.rvs_count.specs.Counting.{aims_in}
-use Rattle.rvs_count.specs.Index.{lengths_to}
-use Rattle.rvs_count.proofs.crosses.lengths.Given as goal
-
-abbrev pub invariant-loop-shorter : goal.invariant-loop-shorter
-invariant-loop-shorter l = l.lengths ≡ lengths_to (aims_in l.labels) l.shorter

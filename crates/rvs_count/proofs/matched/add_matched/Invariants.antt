@@ -1,4 +1,0 @@
-use Rattle.rvs_count.proofs.matched.add_matched.Given as goal
-
-abbrev pub ghosts-add_counted : goal.ghosts-add_counted
-ghosts-add_counted a = record { name = a.blank.name; parts = a.blank.parts }

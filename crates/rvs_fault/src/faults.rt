@@ -1,0 +1,30 @@
+// Why a call that reads an input gives no value.
+ghost use Rattle.std.specs.Prelude.{◌≡◌};
+ghost use Rattle.rvs_fault.specs.declared.faults.Fault.TheVariants.{NoMemory};
+
+use std::alloc::AllocError;
+
+/// Why a call that reads an input gives no value.
+#[derive(Drop, Clone, Copy)]
+pub enum Fault<R> {
+    /// The input is refused.
+    Refused(R),
+    /// The allocator refused.
+    NoMemory,
+}
+
+impl<R> From<rvs_base::NoMemory> for Fault<R> {
+    ghost from_gives = { λ _ fault. fault ≡ NoMemory };
+
+    fn from(_: rvs_base::NoMemory) -> Self {
+        Fault::NoMemory
+    }
+}
+
+impl<R> From<AllocError> for Fault<R> {
+    ghost from_gives = { λ _ fault. fault ≡ NoMemory };
+
+    fn from(_: AllocError) -> Self {
+        Fault::NoMemory
+    }
+}

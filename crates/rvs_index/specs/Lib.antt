@@ -1,0 +1,12 @@
+pub mod Buckets
+pub mod Cells
+pub mod Counting
+pub mod Entries
+pub mod Index
+pub mod Marks
+pub mod Runs
+pub mod Shared
+pub mod Shortcuts
+pub mod Signs
+pub mod State
+pub mod Wanted

@@ -1,0 +1,4 @@
+pub mod SameKinds
+pub mod Distinct
+pub mod Saying
+pub mod Scans

@@ -1,0 +1,10 @@
+pub mod Limits
+pub mod Keys
+pub mod Says
+pub mod Kinds
+pub mod Points
+pub mod PointView
+pub mod SaidView
+pub mod Hits
+pub mod Valid
+pub mod Faults
