@@ -2,7 +2,7 @@
 use Rattle.std.proofs.Common.{◌≡◌, ℕ, true, false, List, [], ◌∷◌, ◌++◌, refl}
 use Rattle.std.specs.Prelude.{codes, Ok, Err, pos}
 use Rattle.rvs_insn.specs.Isa.{Isa}
-use Rattle.rvs_insn.specs.Memory.{Memory, usual_memory}
+use Rattle.rvs_insn.specs.Memory.{usual_memory}
 use Rattle.rvs_insn.specs.Names.{op_of_name}
 use Rattle.rvs_base.specs.Digits.{digits_of}
 use Rattle.rvs_asm_text.specs.Text.{tokens}

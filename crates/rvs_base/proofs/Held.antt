@@ -123,11 +123,6 @@ nothing = None
 none_left : (t : Bool) → nothing ≡ (if t then nothing else nothing)
 none_left t = grind arith
 
--- the file is taken away
-taken_choice : (t v : Bool) (b c s : Option (List ℕ)) → v ≡ t → s ≡ (if t then None else c)
-    → s ≡ (if t then None else if v then b else c)
-taken_choice t v b c s same p = grind arith
-
 -- the files of the name are taken away
 without_head : (file : File) (files : List File) (name other : List ℕ) (b : Bool)
     → is_named name file ≡ b

@@ -12,6 +12,7 @@ use Rattle.std.proofs.lemmas.List.Folds.{list_all-append, list_any-append}
 use Rattle.std.proofs.lemmas.List.Sums.{sum_by-cons, sum_by-append}
 use Rattle.std.proofs.lemmas.List.Filters.{length-filter_both, sum_by-filter_both}
 use Rattle.rvs_cross.proofs.Members.{by_test}
+use Rattle.rvs_fault.specs.declared.faults.Fault.{Fault}
 use Rattle.rvs_insn.specs.Isa.{Isa}
 use Rattle.rvs_insn.specs.declared.op.Op.{Op}
 use Rattle.rvs_tree.specs.Data.{Data, Pairs, own_pairs, is_map, value_at, value_among}
@@ -430,7 +431,8 @@ groups-spelled isa families d ls own e =
       );
     })))
 
-pub read_spelled : (isa : Isa) (families : Families) (d : Data) (r : Result (List Read) CgfRefusal)
+pub read_spelled : (isa : Isa) (families : Families) (d : Data)
+    (r : Result (List Read) (Fault CgfRefusal))
     → AnswersWith (map label_view) r (groups_of isa families d)
     → IfOk r (λ ls. nodes_are_own d ≡ true → CanBeSpelled isa (map label_view ls))
 read_spelled isa families d (Ok ls) e =

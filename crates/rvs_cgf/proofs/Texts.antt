@@ -1,9 +1,8 @@
 -- Lines of points, of skipped entries and of labels, one after another.
 use Rattle.std.proofs.Common.{◌≡◌, ℕ, ◌+◌, ◌<◌, List, [], ◌∷◌, ◌++◌, length, map, drop, get_or}
-use Rattle.std.proofs.Common.{flat_map, Option, Some, refl, sym, ap, ◌∙◌, add-one, append_assoc}
+use Rattle.std.proofs.Common.{flat_map, Option, Some, refl, sym, ap, ◌∙◌, append_assoc}
 use Rattle.std.proofs.Common.{append-nil}
-use Rattle.std.proofs.Math.Seq.{drop-cons}
-use Rattle.rvs_cross.proofs.Searching.{rest_at}
+use Rattle.std.proofs.lemmas.List.{drop_more}
 use Rattle.rvs_cgf.specs.GroupView.{point_view, skipped_view, label_view}
 use Rattle.rvs_cgf.specs.Print.{head_line, point_line, points_text, skipped_line, label_text}
 use Rattle.rvs_points.specs.declared.group.Kind.{Kind}
@@ -23,7 +22,7 @@ pub points_more : (text : List ℕ) (before : Option Kind) (ps : List Point) (i 
 points_more text before ps i d h =
     append_assoc text (head_line before (get_or ps i d).kind ++ point_line (get_or ps i d).key)
     (points_text (Some (get_or ps i d).kind) (map point_view (drop (i + 1) ps)))
-    ∙ sym (ap (λ xs. text ++ points_text before (map point_view xs)) (rest_at ps i d h))
+    ∙ sym (ap (λ xs. text ++ points_text before (map point_view xs)) (drop_more ps i d h))
 
 pub points_all : (text : List ℕ) (before : Option Kind) (ps : List Point)
     → text ++ points_text before (map point_view (drop (length ps) ps)) ≡ text
@@ -37,7 +36,7 @@ pub skipped_more : (text : List ℕ) (ss : List Skipped) (i : ℕ) (d : Skipped)
 skipped_more text ss i d h =
     append_assoc text (skipped_line (skipped_view (get_or ss i d)))
     (flat_map skipped_line (map skipped_view (drop (i + 1) ss)))
-    ∙ sym (ap (λ xs. text ++ flat_map skipped_line (map skipped_view xs)) (rest_at ss i d h))
+    ∙ sym (ap (λ xs. text ++ flat_map skipped_line (map skipped_view xs)) (drop_more ss i d h))
 
 pub skipped_all : (text : List ℕ) (ss : List Skipped)
     → text ++ flat_map skipped_line (map skipped_view (drop (length ss) ss)) ≡ text
@@ -51,7 +50,7 @@ pub labels_more : (text : List ℕ) (ls : List Label) (i : ℕ) (d : Label) → 
 labels_more text ls i d h =
     append_assoc text (label_text (label_view (get_or ls i d)))
     (flat_map label_text (map label_view (drop (i + 1) ls)))
-    ∙ sym (ap (λ xs. text ++ flat_map label_text (map label_view xs)) (rest_at ls i d h))
+    ∙ sym (ap (λ xs. text ++ flat_map label_text (map label_view xs)) (drop_more ls i d h))
 
 pub labels_all : (text : List ℕ) (ls : List Label)
     → text ++ flat_map label_text (map label_view (drop (length ls) ls)) ≡ text

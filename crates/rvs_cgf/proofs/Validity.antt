@@ -11,6 +11,7 @@ use Rattle.std.proofs.lemmas.List.Elements.{All-nil, All-cons, All-push, All-app
 use Rattle.std.proofs.lemmas.List.Elements.{All-tail}
 use Rattle.std.proofs.lemmas.List.Folds.{list_all-append, list_any-append}
 use Rattle.std.proofs.lemmas.Slice.Eq.{bytes_eq-Decides}
+use Rattle.rvs_fault.specs.declared.faults.Fault.{Fault}
 use Rattle.rvs_insn.specs.Isa.{Isa}
 use Rattle.rvs_insn.specs.Names.{op_of_name, is_admitted_op}
 use Rattle.rvs_insn.specs.Table.{row, all_ops}
@@ -445,7 +446,8 @@ All-map P f [] h = All-nil (λ x. P (f x))
 All-map P f (x ∷ xs) h = All-cons (λ x. P (f x)) x xs (All-head P (f x) (map f xs) h)
     (All-map P f xs (All-tail P (f x) (map f xs) h))
 
-pub read_valid : (isa : Isa) (families : Families) (d : Data) (r : Result (List Read) CgfRefusal)
+pub read_valid : (isa : Isa) (families : Families) (d : Data)
+    (r : Result (List Read) (Fault CgfRefusal))
     → AnswersWith (map label_view) r (groups_of isa families d)
     → IfOk r (All (λ l. IsValidIfSelected isa (label_view l)))
 read_valid isa families d (Ok ls) e =

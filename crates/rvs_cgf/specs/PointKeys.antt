@@ -6,7 +6,6 @@ use Rattle.rvs_points.specs.Kinds.{mark}
 use Rattle.rvs_points.specs.Points.{has}
 use Rattle.rvs_points.specs.PointView.{point_view}
 use Rattle.rvs_points.specs.declared.group.Kind.{Kind}
-use Rattle.rvs_points.specs.declared.group.Kind.TheVariants as kind
 use Rattle.rvs_points.specs.declared.group.Point.{Point}
 
 -- the texts are those of the points

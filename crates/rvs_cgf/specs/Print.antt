@@ -13,14 +13,8 @@ use Rattle.rvs_points.specs.Kinds.{kind_name}
 use Rattle.rvs_points.specs.Faults.{number_of}
 use Rattle.rvs_cgf.specs.Groups.{Label, Point, Skipped, Refusal, same_kind}
 use Rattle.rvs_points.specs.declared.group.Kind.{Kind}
-use Rattle.rvs_points.specs.declared.group.Kind.TheVariants as kind
 use Rattle.rvs_points.specs.declared.refusal.CgfKind.{CgfKind}
-use Rattle.rvs_points.specs.declared.refusal.CgfKind.TheVariants.{BadLabelName, BadShape}
-use Rattle.rvs_points.specs.declared.refusal.CgfKind.TheVariants.{UnknownNode}
-use Rattle.rvs_points.specs.declared.refusal.CgfKind.TheVariants.{UnknownMnemonic, BadRegister}
 use Rattle.rvs_points.specs.declared.refusal.CgfKind.TheVariants.{BadExpr, BadAbstract, BadCross}
-use Rattle.rvs_points.specs.declared.refusal.CgfKind.TheVariants.{BadConfig, TooManyLabels}
-use Rattle.rvs_points.specs.declared.refusal.CgfKind.TheVariants.{TooManyPoints, NoRoom, NoMemory}
 
 -- ---- groups with all their points written out
 -- a single quote twice

@@ -11,10 +11,11 @@ ghost use Rattle.rvs_cgf.specs.PlaceView.{place_view};
 
 use crate::place::{At, at_key};
 use crate::refusal::CgfRefusal;
-use crate::walk::{Taken, add, is_shaped, no_memory, refusal, skip};
+use crate::walk::{Taken, add, is_shaped, refusal, skip};
 use rvs_abstract::{AbstractRefusal, Call, Families, Family4, len, read_call, value};
 use rvs_base::{NoMemory, Text};
 use rvs_expr::{Expr, NumName, parse_num};
+use rvs_fault::Fault;
 use rvs_points::{CgfKind, Kind, Meaning, Point};
 use rvs_tree::Tree;
 use std::alloc::Global;
@@ -57,13 +58,13 @@ fn add_value(
     var: NumName,
     value: i64,
     taken: Taken,
-) -> Result<Taken, CgfRefusal>
+) -> Result<Taken, Fault<CgfRefusal>>
     ensures { AnswersWith taken_view result
         (spec.add (place_view place.entry) (spec.value_point var value) (taken_view taken)) }
 {
     match value_point(alloc, var, value) {
         Ok(point) => add(alloc, place, point, taken),
-        Err(NoMemory) => Err(no_memory(alloc)),
+        Err(NoMemory) => Err(Fault::NoMemory),
     }
 }
 
@@ -74,7 +75,7 @@ fn add_kth(
     f: &Family4,
     k: u32,
     taken: Taken,
-) -> Result<Taken, CgfRefusal>
+) -> Result<Taken, Fault<CgfRefusal>>
     requires { k < spec.length_of f.now.family f.now.size f.now.signed }
     ensures { AnswersWith taken_view result
         (spec.add_kth (place_view place.entry) (ranged_view f.now) k (taken_view taken)) }
@@ -88,7 +89,7 @@ fn family_values(
     place: At<'_>,
     f: &Family4,
     taken: Taken,
-) -> Result<Taken, CgfRefusal>
+) -> Result<Taken, Fault<CgfRefusal>>
     ensures { AnswersWith taken_view result
         (spec.values (place_view place.entry) (ranged_view f.now) (taken_view taken)) }
 {
@@ -149,7 +150,7 @@ fn add_values(
     other: NumName,
     beside: i64,
     taken: Taken,
-) -> Result<Taken, CgfRefusal>
+) -> Result<Taken, Fault<CgfRefusal>>
     requires first { unsigned_abs value ≤ 2 ^ 32 }
     requires second { unsigned_abs beside ≤ 2 ^ 32 }
     ensures { AnswersWith taken_view result
@@ -158,7 +159,7 @@ fn add_values(
 {
     match pair_point(alloc, var, value, other, beside) {
         Ok(point) => add(alloc, place, point, taken),
-        Err(NoMemory) => Err(no_memory(alloc)),
+        Err(NoMemory) => Err(Fault::NoMemory),
     }
 }
 
@@ -171,7 +172,7 @@ fn add_pair(
     j: u32,
     k: u32,
     taken: Taken,
-) -> Result<Taken, CgfRefusal>
+) -> Result<Taken, Fault<CgfRefusal>>
     requires first { j < spec.length_of a.now.family a.now.size a.now.signed }
     requires second { k < spec.length_of b.now.family b.now.size b.now.signed }
     ensures { AnswersWith taken_view result
@@ -189,7 +190,7 @@ fn with_jth(
     b: &Family4,
     j: u32,
     taken: Taken,
-) -> Result<Taken, CgfRefusal>
+) -> Result<Taken, Fault<CgfRefusal>>
     requires { j < spec.length_of a.now.family a.now.size a.now.signed }
     ensures { AnswersWith taken_view result
         (spec.with_jth (place_view place.entry) (ranged_view a.now) (ranged_view b.now) j
@@ -212,7 +213,7 @@ fn family_pairs(
     a: &Family4,
     b: &Family4,
     taken: Taken,
-) -> Result<Taken, CgfRefusal>
+) -> Result<Taken, Fault<CgfRefusal>>
     ensures { AnswersWith taken_view result
         (spec.pairs (place_view place.entry) (ranged_view a.now) (ranged_view b.now)
         (taken_view taken)) }
@@ -233,7 +234,7 @@ fn called(
     place: At<'_>,
     call: Result<Call, AbstractRefusal>,
     taken: Taken,
-) -> Result<Taken, CgfRefusal>
+) -> Result<Taken, Fault<CgfRefusal>>
     ensures { AnswersWith taken_view result
         (spec.called (place_view place.entry) (read_call_view call) (taken_view taken)) }
 {
@@ -252,7 +253,7 @@ fn abstract_entry(
     place: At<'_>,
     entry: &Tree,
     taken: Taken,
-) -> Result<Taken, CgfRefusal>
+) -> Result<Taken, Fault<CgfRefusal>>
     ensures { AnswersWith taken_view result
         (spec.abstract_entry families (place_view place.entry) (tree.view entry.now)
         (taken_view taken)) }
@@ -270,7 +271,7 @@ pub fn abstract_map(
     place: At<'_>,
     entries: &Tree,
     taken: Taken,
-) -> Result<Taken, CgfRefusal>
+) -> Result<Taken, Fault<CgfRefusal>>
     requires { IsTrue (is_map (tree.view entries.now)) }
     ensures { AnswersWith taken_view result
         (spec.for_each (spec.under (place_view place.entry) (spec.abstract_entry families))

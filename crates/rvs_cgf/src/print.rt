@@ -11,6 +11,7 @@ use rvs_abstract::AbstractRefusal;
 use rvs_base::{NoMemory, Text};
 use rvs_cross::CrossRefusal;
 use rvs_expr::ExprRefusal;
+use rvs_fault::Refusal;
 use rvs_points::{CgfKind, Groups, Kind, Label, Point, Skipped};
 use std::alloc::Global;
 
@@ -229,20 +230,17 @@ fn inner_text(alloc: Global, kind: &CgfKind) -> Result<Text, NoMemory>
     }
 }
 
-/// A refusal as a fault line has it behind the file's name: `cgf`, the number of the rule, the
-/// label, the node and the key, each `-` where it is empty, and why an expression, a call of a
-/// family or a cross point is refused.
-///
-/// # Errors
-///
-/// [`NoMemory`].
-pub fn refusal_text(alloc: Global, refusal: &CgfRefusal) -> Result<Text, NoMemory>
-    ensures { IfOk result (λ text. text ≡ spec.refusal_text (refusal_view refusal.now)) }
-{
-    let number = refusal.kind.number();
-    let label = or_dash(refusal.label.as_str());
-    let node = or_dash(refusal.node.as_str());
-    let key = or_dash(refusal.key.as_str());
-    let inner = inner_text(alloc, &refusal.kind)?;
-    Ok(Text::from(format!(in alloc; "cgf {number} {label} {node} {key}{inner}")?))
+impl Refusal for CgfRefusal {
+    ghost said = { λ refusal. spec.refusal_text (refusal_view refusal) };
+
+    /// `cgf`, the number of the rule, the label, the node and the key, each `-` where it is empty,
+    /// and why an expression, a call of a family or a cross point is refused.
+    fn text(&self, alloc: Global) -> Result<Text, NoMemory> {
+        let number = self.kind.number();
+        let label = or_dash(self.label.as_str());
+        let node = or_dash(self.node.as_str());
+        let key = or_dash(self.key.as_str());
+        let inner = inner_text(alloc, &self.kind)?;
+        Ok(Text::from(format!(in alloc; "cgf {number} {label} {node} {key}{inner}")?))
+    }
 }

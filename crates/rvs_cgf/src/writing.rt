@@ -16,10 +16,11 @@ use crate::listing::size;
 use crate::place::at_label;
 use crate::print::push_label;
 use crate::refusal::CgfRefusal;
-use crate::walk::{holds, no_memory, refusal};
+use crate::walk::{holds, refusal};
 use crate::written::Written;
 use rvs_abstract::Families;
 use rvs_base::{NoMemory, Text, release};
+use rvs_fault::Fault;
 use rvs_insn::IsaSpec;
 use rvs_points::{CgfKind, Label};
 use rvs_tree::Tree;
@@ -52,7 +53,7 @@ fn with_label(
     name: &str,
     label: &Label,
     written: Written,
-) -> Result<Written, CgfRefusal>
+) -> Result<Written, Fault<CgfRefusal>>
     requires { written.count < most_labels }
     ensures { (listed : spec.Listed) → written_view written ≡ told listed
         → AnswersWith written_view result
@@ -64,7 +65,7 @@ fn with_label(
     }
     match pushed(label, total, written) {
         Ok(written) => Ok(written),
-        Err(NoMemory) => Err(no_memory(alloc)),
+        Err(NoMemory) => Err(Fault::NoMemory),
     }
 }
 
@@ -76,7 +77,7 @@ fn write_step(
     name: &str,
     entries: &Tree,
     written: Written,
-) -> Result<Written, CgfRefusal>
+) -> Result<Written, Fault<CgfRefusal>>
     ensures { (listed : spec.Listed) → written_view written ≡ told listed
         → AnswersWith written_view result
         (told_of (spec.label_step isa.now families name.now (trees.view entries.now) listed)) }
@@ -108,7 +109,7 @@ fn write_labels(
     isa: &IsaSpec,
     families: Families,
     root: &Tree,
-) -> Result<Written, CgfRefusal>
+) -> Result<Written, Fault<CgfRefusal>>
     requires { IsTrue (is_map (trees.view root.now)) }
     ensures { AnswersWith written_view result
         (told_of (spec.for_each (spec.label_step isa.now families) (own_pairs (trees.view root.now))
@@ -136,7 +137,7 @@ pub fn write_groups(
     tree: &Tree,
     isa: &IsaSpec,
     families: Families,
-) -> Result<Text, CgfRefusal>
+) -> Result<Text, Fault<CgfRefusal>>
     ensures { AnswersWith (λ text. text) result (normal_of isa.now families (trees.view tree.now)) }
 {
     if is_empty_scalar(tree) {

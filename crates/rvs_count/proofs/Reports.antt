@@ -1,8 +1,8 @@
 -- Lines of points, of entries that aren't counted and of labels, one after another.
-use Rattle.std.proofs.Common.{◌≡◌, ℕ, zero, suc, ◌+◌, ◌<◌, List, [], ◌∷◌}
+use Rattle.std.proofs.Common.{◌≡◌, ℕ, ◌+◌, ◌<◌, List, [], ◌∷◌}
 use Rattle.std.proofs.Common.{◌++◌, length, map, drop, get_or, flat_map, refl}
 use Rattle.std.proofs.Common.{arith, append_assoc, append-nil}
-use Rattle.rvs_cross.proofs.Searching.{rest_at}
+use Rattle.std.proofs.lemmas.List.{drop_more}
 use Rattle.rvs_points.specs.PointView.{point_view, skipped_view}
 use Rattle.rvs_points.specs.declared.group.Point.{Point}
 use Rattle.rvs_points.specs.declared.group.Skipped.{Skipped}
@@ -17,7 +17,7 @@ pub points_more : (text counts : List ℕ) (ps : List Point) (i : ℕ) (d : Poin
     → (text ++ point_line (get_or counts i 0) (point_view (get_or ps i d)))
     ++ points_text (drop (i + 1) counts) (map point_view (drop (i + 1) ps))
     ≡ text ++ points_text (drop i counts) (map point_view (drop i ps))
-points_more text counts ps i d h l = grind (arith, append_assoc, rest_at)
+points_more text counts ps i d h l = grind (arith, append_assoc, drop_more)
 
 pub points_all : (text counts : List ℕ) (ps : List Point) → length counts ≡ length ps
     → text ++ points_text (drop (length ps) counts) (map point_view (drop (length ps) ps)) ≡ text
@@ -27,7 +27,7 @@ pub skipped_more : (text : List ℕ) (ss : List Skipped) (i : ℕ) (d : Skipped)
     → (text ++ skipped_line (skipped_view (get_or ss i d)))
     ++ flat_map skipped_line (map skipped_view (drop (i + 1) ss))
     ≡ text ++ flat_map skipped_line (map skipped_view (drop i ss))
-skipped_more text ss i d h = grind (arith, append_assoc, flat_map, rest_at)
+skipped_more text ss i d h = grind (arith, append_assoc, flat_map, drop_more)
 
 pub skipped_all : (text : List ℕ) (ss : List Skipped)
     → text ++ flat_map skipped_line (map skipped_view (drop (length ss) ss)) ≡ text

@@ -18,6 +18,9 @@ points_text _ _ = []
 abbrev pub skipped_line : Skipped → List ℕ
 skipped_line s = codes "skipped " ++ (s.node ++ (codes " " ++ (s.key ++ codes "\n")))
 
+abbrev pub unselected_line : List ℕ → List ℕ
+unselected_line name = codes "label " ++ (name ++ codes " unselected\n")
+
 -- how many points were hit
 abbrev pub hit_count : List ℕ → ℕ
 hit_count counts = count_by (λ c. not (c == 0)) counts
@@ -32,7 +35,7 @@ abbrev pub label_text : List ℕ → Label → List ℕ
 label_text counts l =
     if l.selected then hit_line l.name counts (length l.points)
     ++ (points_text counts l.points ++ flat_map skipped_line l.skipped)
-    else codes "label " ++ (l.name ++ codes " unselected\n")
+    else unselected_line l.name
 
 -- how many counts are a label's own
 abbrev pub width : Label → ℕ

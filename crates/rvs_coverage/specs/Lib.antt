@@ -3,4 +3,3 @@ pub mod LogReport
 pub mod Telling
 pub mod LogLines
 pub mod Coverage
-pub mod Propagate

@@ -61,7 +61,11 @@ pub trait LogTaker {
 }
 
 /// Takes some logs more, one after the other.
-pub(crate) fn take_onto<H: Host, E: Sink, T: LogTaker>(
+///
+/// # Errors
+///
+/// [`Unfinished`].
+pub fn take_onto<H: Host, E: Sink, T: LogTaker>(
     alloc: Global,
     host: &mut H,
     err: &mut E,
@@ -86,9 +90,13 @@ pub(crate) fn take_onto<H: Host, E: Sink, T: LogTaker>(
 
 /// Reads the named log to its end with a reader that was fed nothing. `K` is what comes to be known
 /// of it.
+///
+/// # Errors
+///
+/// [`Unfinished`].
 // The buffer for the log would lie on the stack under every command if this were inlined.
 #[inline(never)]
-pub(crate) fn take_log<H: Host, E: Sink, C: Consumer, K>(
+pub fn take_log<H: Host, E: Sink, C: Consumer, K>(
     alloc: Global,
     host: &mut H,
     err: &mut E,

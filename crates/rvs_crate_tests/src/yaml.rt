@@ -1,5 +1,6 @@
 // Texts of the YAML profile, as their trees or as they are refused.
 use rvs_base::{number_below, release};
+use rvs_fault::Fault;
 use rvs_yaml::{Tree, YamlRefusal, parse};
 use std::alloc::Global;
 use std::test::Fail;
@@ -48,7 +49,8 @@ pub fn tell_tree(alloc: Global, text: &str, report: &mut String) -> Result<(), F
     let read = parse(alloc, text.as_bytes());
     let told = match &read {
         Ok(tree) => spell_line(tree, report),
-        Err(refusal) => spell_refusal(refusal, report),
+        Err(Fault::Refused(refusal)) => spell_refusal(refusal, report),
+        Err(Fault::NoMemory) => Err(Fail::new("no memory")),
     };
     release(read);
     told
@@ -64,7 +66,8 @@ fn tell(alloc: Global, bytes: &[u8], report: &mut String) -> Result<(), Fail> {
     let read = parse(alloc, bytes);
     let told = match &read {
         Ok(_) => accept(report),
-        Err(refusal) => spell_refusal(refusal, report),
+        Err(Fault::Refused(refusal)) => spell_refusal(refusal, report),
+        Err(Fault::NoMemory) => Err(Fail::new("no memory")),
     };
     release(read);
     told

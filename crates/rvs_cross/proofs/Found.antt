@@ -6,7 +6,7 @@ use Rattle.rvs_cross.specs.declared.cross.Place.{Place}
 use Rattle.rvs_cross.specs.CrossView.{place_view}
 use Rattle.rvs_cross.specs.Assigned.{assigned}
 use Rattle.rvs_cross.specs.Used.{is_used}
-use Rattle.rvs_cross.proofs.Assignments.{used_map}
+use Rattle.rvs_cross.proofs.Uses.{used_map}
 use Rattle.rvs_cross.proofs.Binding.{nothing_where_unused}
 
 pub none_found : (x : Variable) (ps : List Place) (is : List Fields) (used : Bool)

@@ -1,7 +1,4 @@
-pub mod Assignments
 pub mod Binding
-pub mod Choices
-pub mod Excluding
 pub mod Few
 pub mod Found
 pub mod Members
@@ -12,7 +9,6 @@ pub mod Once
 pub mod Rows
 pub mod Searching
 pub mod Single
-pub mod Solutions
-pub mod Solved
 pub mod Turns
+pub mod Uses
 pub mod Words

@@ -5,16 +5,15 @@ use Rattle.std.proofs.Common.{append_assoc, append-nil, arith, rules}
 use Rattle.std.specs.Prelude.{filter, if◌then◌else◌}
 use Rattle.std.specs.List.{list_any}
 use Rattle.std.proofs.lemmas.Bool.{eqb-true, and_parts}
-use Rattle.std.proofs.lemmas.List.{drop_all}
+use Rattle.std.proofs.lemmas.List.{drop_all, drop_more}
 use Rattle.std.proofs.lemmas.List.Folds.{list_any-append}
 use Rattle.rvs_facts.specs.Mnemonics.{is_same}
 use Rattle.rvs_cross.specs.declared.cross.Assignment.{Assignment}
 use Rattle.rvs_cross.specs.Once.{each_once, with_one}
-use Rattle.rvs_cross.specs.Variables.{same_set}
+use Rattle.rvs_cross.specs.declared.cross.Field.{Field}
+use Rattle.rvs_cross.specs.Variables.{same_set, same_field}
 use Rattle.rvs_cross.proofs.Binding.{same_is}
-use Rattle.rvs_cross.proofs.Excluding.{field_is}
 use Rattle.rvs_cross.proofs.Members.{by_test, in_any, any_in}
-use Rattle.rvs_cross.proofs.Searching.{rest_at}
 
 pub record IsTransitive {X : Type 0} (same : X → X → Bool) : Type 0 where
   pub joins : (x y z : X) → same x y ≡ true → same y z ≡ true → same x z ≡ true
@@ -75,7 +74,7 @@ none_kept same kept xs e = ap (λ l. with_rest same l xs) e ∙ all_pass (each_o
 pub turn : {X : Type 0} (same : X → X → Bool) → IsTransitive same → (xs : List X) (k : ℕ) (d : X)
     (kept next whole : List X) → k < length xs → with_rest same kept (drop k xs) ≡ whole
     → next ≡ with_one same kept (get_or xs k d) → with_rest same next (drop (k + 1) xs) ≡ whole
-turn same t xs k d kept next whole h w e = grind (arith, with_next, rest_at)
+turn same t xs k d kept next whole h w e = grind (arith, with_next, drop_more)
 
 pub all_kept : {X : Type 0} (same : X → X → Bool) (xs : List X) (k : ℕ) (kept whole : List X)
     → length xs ≤ k → with_rest same kept (drop k xs) ≡ whole → kept ≡ whole
@@ -85,6 +84,9 @@ all_kept same xs k kept whole h w = grind (arith, append-nil, drop_all)
 
 pub ops_join : IsTransitive is_same
 ops_join = grind (arith, eqb-true)
+
+pub field_is : (f g : Field) → same_field f g ≡ true → g ≡ f
+field_is f g h = grind arith
 
 set_is : (s t : Assignment) → same_set s t ≡ true → t ≡ s
 set_is s t h = grind (arith, and_parts, same_is, field_is)

@@ -1,7 +1,7 @@
 -- One turn of a loop that searches a list of lists.
 use Rattle.std.proofs.Common.{◌≡◌, ℕ, ◌+◌, ◌*◌, ◌<◌, ◌≤◌, Bool, true, false, cond, List, [], ◌∷◌}
 use Rattle.std.proofs.Common.{◌++◌, length, get_or, drop, take, inl, inr, Option, Some, None, refl}
-use Rattle.std.proofs.Common.{sym, ap, ◌∙◌, arith, add-one, drop-cons}
+use Rattle.std.proofs.Common.{sym, ap, ◌∙◌, arith}
 use Rattle.std.specs.Prelude.{find, filter, flat_map}
 use Rattle.std.specs.Option.{option_or}
 use Rattle.std.proofs.Math.Nat.{mul-le-mul_left}
@@ -9,18 +9,15 @@ use Rattle.std.proofs.lemmas.List.Folds.{find-append}
 use Rattle.std.proofs.lemmas.List.Concat.{length-flat_map}
 use Rattle.std.proofs.lemmas.List.Sums.{sum_by_more, sum_by-take-le}
 use Rattle.std.specs.List.{sum_by}
+use Rattle.std.proofs.lemmas.List.{drop_more}
 use Rattle.rvs_cross.proofs.Members.{In}
-
-pub rest_at : {X : Type 0} (xs : List X) (k : ℕ) (d : X) → k < length xs
-    → drop k xs ≡ get_or xs k d ∷ drop (k + 1) xs
-rest_at xs k d h = rw (add-one, drop-cons xs k d)
 
 -- ---- lists of lists
 
 find_turn : {X Y : Type 0} (p : Y → Bool) (f : X → List Y) (xs : List X) (k : ℕ) (d : X)
     → k < length xs → find p (flat_map f (drop k xs))
     ≡ option_or (find p (f (get_or xs k d))) (find p (flat_map f (drop (k + 1) xs)))
-find_turn p f xs k d h = grind (arith, rest_at, find-append)
+find_turn p f xs k d h = grind (arith, drop_more, find-append)
 
 pub turn_found : {X Y : Type 0} (p : Y → Bool) (f : X → List Y) (xs : List X) (k : ℕ) (d : X)
     (y : Y) (whole : Option Y) → k < length xs → whole ≡ find p (flat_map f (drop k xs))

@@ -19,7 +19,7 @@ use Rattle.rvs_cross.specs.Used.{says_in, sets_variable, is_used, once_among, us
 use Rattle.rvs_cross.specs.Used.{assigns_once, is_bound}
 use Rattle.rvs_cross.proofs.Members.{by_test, any_in, in_any}
 use Rattle.rvs_cross.proofs.Turns.{some_of}
-use Rattle.rvs_cross.proofs.Assignments.{used_map}
+use Rattle.rvs_cross.proofs.Uses.{used_map}
 use Rattle.rvs_cross.proofs.Binding.{same_is, next, bound_values, bound_where_used, found_match}
 
 same_self : (x : Variable) → same_variable x x ≡ true

@@ -1,5 +1,5 @@
 -- The shortest cross point: one instruction of one mnemonic.
-use Rattle.std.specs.Prelude.{◌≡◌, List, [], ◌∷◌, ◌++◌, Some, None, Ok, codes}
+use Rattle.std.specs.Prelude.{◌≡◌, [], ◌∷◌, ◌++◌, Some, None, Ok, codes}
 use Rattle.rvs_insn.specs.declared.op.Op.{Op}
 use Rattle.rvs_insn.specs.Table.{row}
 use Rattle.rvs_cross.specs.Parse.{parse, read}

@@ -1,7 +1,6 @@
 pub mod Alone
 pub mod Assigned
 pub mod Bare
-pub mod Choosing
 pub mod Cross
 pub mod CrossView
 pub mod Entries
@@ -13,7 +12,6 @@ pub mod Once
 pub mod Outcomes
 pub mod Parse
 pub mod Refusals
-pub mod Sequences
 pub mod Used
 pub mod Variables
 pub mod Windows

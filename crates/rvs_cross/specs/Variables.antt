@@ -1,10 +1,12 @@
 -- The variables of a cross point, in the order in which they appear first.
-use Rattle.std.specs.Prelude.{ℕ, zero, suc, nat_lt, Bool, if◌then◌else◌, List, [], ◌∷◌, ◌++◌}
+use Rattle.std.specs.Prelude.{ℕ, zero, suc, nat_lt, Bool, true, false, if◌then◌else◌}
+use Rattle.std.specs.Prelude.{List, [], ◌∷◌, ◌++◌}
 use Rattle.std.specs.Prelude.{◌&&◌, length, Option, Some, None, Ok, Err, option_map, bytes_eq}
 use Rattle.std.specs.List.{list_any, position, filter_map}
 use Rattle.rvs_cross.specs.declared.cross.Variable.{Variable}
 use Rattle.rvs_cross.specs.declared.cross.Variable.TheVariants.{First, Second, Third}
 use Rattle.rvs_cross.specs.declared.cross.Field.{Field}
+use Rattle.rvs_cross.specs.declared.cross.Field.TheVariants.{Rd, Rs1, Rs2}
 use Rattle.rvs_cross.specs.declared.cross.Assignment.{Assignment}
 use Rattle.rvs_cross.specs.declared.refusal.CrossRefusal.TheVariants.{TooManyVariables}
 use Rattle.rvs_cross.specs.Outcomes.{Outcome, for_each}
@@ -12,7 +14,6 @@ use Rattle.rvs_text.specs.Parts.{parts}
 use Rattle.rvs_cross.specs.Entries.{assignment}
 use Rattle.rvs_cross.specs.Once.{each_once}
 use Rattle.rvs_cross.specs.Windows.{same_variable}
-use Rattle.rvs_cross.specs.Choosing.{same_field}
 
 abbrev pub is_noted : List (List ℕ) → List ℕ → Bool
 is_noted vars name = list_any (λ v. bytes_eq v name) vars
@@ -51,6 +52,13 @@ numbered vars set = record { variable = variable_named vars set.0; field = set.1
 
 abbrev pub set_of : List (List ℕ) → List ℕ → Option Assignment
 set_of vars part = option_map (numbered vars) (assignment part)
+
+-- one field
+abbrev pub same_field : Field → Field → Bool
+same_field Rd Rd = true
+same_field Rs1 Rs1 = true
+same_field Rs2 Rs2 = true
+same_field _ _ = false
 
 -- they say the same field of the same variable
 abbrev pub same_set : Assignment → Assignment → Bool

@@ -60,12 +60,7 @@ fn meets<L: Ledger>(
 
 /// Whether the instruction is what the place asks for. It is at most one step.
 #[inline(always)]
-pub(crate) fn fits<L: Ledger>(
-    values: &Values,
-    place: &Place,
-    insn: &Insn,
-    steps: &mut Steps<L>,
-) -> bool
+pub fn fits<L: Ledger>(values: &Values, place: &Place, insn: &Insn, steps: &mut Steps<L>) -> bool
     ensures value { result ≡ fits values.now (place_view place.now) insn.now }
     ensures cost { steps.new ≤ steps.old + 1 }
 {

@@ -2,7 +2,6 @@
 #![tactic(auto)]
 
 mod building;
-mod choosing;
 mod cross;
 mod entries;
 mod first;
@@ -13,15 +12,17 @@ mod matching;
 mod named;
 mod parsing;
 mod refusal;
-mod solving;
 mod used;
 mod values;
 mod variables;
 
 pub use cross::{Assignment, Cross, Field, Place, Variable, in_order, places};
 pub use first::first_ops;
+pub use fitting::fits;
 pub use laws::one_mnemonic_is_read;
 pub use matching::matches;
 pub use parsing::parse_cross;
 pub use refusal::{CrossRead, CrossRefusal};
-pub use solving::solve_cross;
+pub use used::is_used;
+pub use values::{Values, same_register, value_of};
+pub use variables::same_field;

@@ -25,7 +25,7 @@ fn says_in(sets: &[Assignment], variable: Variable) -> bool
 }
 
 /// Whether some place says something of the variable.
-pub(crate) fn is_used(places: &[Place], variable: Variable) -> bool
+pub fn is_used(places: &[Place], variable: Variable) -> bool
     ensures { result ≡ spec.is_used places.now variable }
 {
     places

@@ -10,10 +10,13 @@ use std::marker::Model;
 /// The registers that the variables stand for; one that no place sets stands for none. Registers
 /// are below 32, by an invariant of the type.
 #[derive(Clone, Copy)]
-pub(crate) struct Values {
-    pub(crate) first: Option<u8>,
-    pub(crate) second: Option<u8>,
-    pub(crate) third: Option<u8>,
+pub struct Values {
+    /// What the first variable stands for.
+    pub first: Option<u8>,
+    /// The second.
+    pub second: Option<u8>,
+    /// The third.
+    pub third: Option<u8>,
 }
 
 impl Model for Values {
@@ -31,7 +34,7 @@ impl Model for Values {
 
 /// What a variable stands for.
 #[inline(always)]
-pub(crate) fn value_of(values: &Values, variable: Variable) -> Option<u8>
+pub fn value_of(values: &Values, variable: Variable) -> Option<u8>
     ensures { result ≡ value_of values.now variable }
 {
     match variable {
@@ -54,8 +57,9 @@ pub(crate) fn register_in(insn: &Insn, field: Field) -> Option<u8>
     }
 }
 
+/// Whether both are there, and they are one.
 #[inline(always)]
-pub(crate) fn same_register(left: Option<u8>, right: Option<u8>) -> bool
+pub fn same_register(left: Option<u8>, right: Option<u8>) -> bool
     ensures { result ≡ same_register left right }
 {
     match (left, right) {

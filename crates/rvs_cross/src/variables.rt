@@ -6,8 +6,7 @@ ghost use Rattle.rvs_cross.specs.Once.{each_once, with_one};
 ghost use Rattle.rvs_cross.specs.Outcomes.{AnswersWith, for_each};
 ghost use Rattle.rvs_cross.specs.Variables as spec;
 
-use crate::choosing::same_field;
-use crate::cross::{Assignment, Variable};
+use crate::cross::{Assignment, Field, Variable};
 use crate::entries::assignment;
 use crate::refusal::CrossRefusal;
 use crate::used::same_variable;
@@ -127,6 +126,16 @@ fn sets_among(alloc: Global, variables: &[Text], entry: &str) -> Result<Vec<Assi
         .split(';')
         .filter_map(|part| set_of(variables, part))
         .collect(alloc)
+}
+
+/// Whether these are one field. It takes no memory.
+pub fn same_field(left: Field, right: Field) -> bool
+    ensures { result ≡ spec.same_field left right }
+{
+    matches!(
+        (left, right),
+        (Field::Rd, Field::Rd) | (Field::Rs1, Field::Rs1) | (Field::Rs2, Field::Rs2)
+    )
 }
 
 /// Whether two assignments say the same.

@@ -5,7 +5,7 @@ use Rattle.std.proofs.Common.{arith}
 use Rattle.rvs_insn.specs.declared.op.Format.TheVariants.{R}
 use Rattle.rvs_insn.specs.declared.op.Op.TheVariants.{Add, Sub, Xor, Or, And, Slt, Sltu, Mul}
 use Rattle.rvs_insn.specs.Table.{row}
-use Rattle.rvs_insn.specs.Word.{IsEncodable, word_of}
+use Rattle.rvs_insn.specs.Word.{word_of}
 use Rattle.rvs_demo.specs.Program.{drawn, drawn_op}
 
 form_by : (a b c d e f g : Bool)

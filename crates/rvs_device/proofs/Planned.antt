@@ -8,7 +8,7 @@ use Rattle.rvs_base.specs.Host.{with_left, run_over, ChangesOne}
 use Rattle.rvs_base.specs.declared.host.DeviceRun.{DeviceRun}
 use Rattle.rvs_base.specs.File.{ReadsAtMost}
 use Rattle.rvs_base.specs.Sink.{SinkState}
-use Rattle.rvs_plan.specs.World.{World, Contents, contents, world, IsFault, IsAnswer, Reading}
+use Rattle.rvs_plan.specs.World.{contents, world, IsFault, IsAnswer, Reading}
 use Rattle.rvs_plan.specs.World.{Writing, Running}
 use Rattle.rvs_plan.specs.World as plan
 use Rattle.rvs_plan.specs.Effect.{Answer, Write, Effect, Read, Device, Did, after, left_by}

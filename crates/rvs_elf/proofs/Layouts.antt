@@ -10,7 +10,6 @@ use Rattle.rvs_machine.specs.Image.{ImageValue, IsImage}
 use Rattle.rvs_elf.specs.declared.writing.Layout.{Layout}
 use Rattle.rvs_elf.specs.Parts.{part}
 use Rattle.rvs_elf.specs.Written as written
-use Rattle.rvs_elf.specs.Written.{elf_of}
 use Rattle.rvs_elf.proofs.Joined.{part_behind, part_here}
 use Rattle.rvs_elf.proofs.Joined.{part_all}
 use Rattle.rvs_elf.proofs.PartsBack.{IsSmall}

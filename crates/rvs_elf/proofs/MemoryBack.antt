@@ -12,7 +12,6 @@ use Rattle.rvs_elf.specs.declared.writing.Layout.{Layout}
 use Rattle.rvs_elf.specs.declared.entries.Segment.{Segment}
 use Rattle.rvs_elf.specs.Parts.{part}
 use Rattle.rvs_elf.specs.Written as written
-use Rattle.rvs_elf.specs.Written.{elf_of}
 use Rattle.rvs_elf.specs.Loading.{Loaded, nothing_loaded, load, loaded, overlap, is_sound, fits}
 use Rattle.rvs_elf.specs.Loading.{with_segment, placed, placed_from, in_text, in_data}
 use Rattle.std.specs.List.{list_any}

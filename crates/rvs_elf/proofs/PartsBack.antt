@@ -15,7 +15,6 @@ use Rattle.rvs_elf.specs.declared.refusal.ElfRefusal.TheVariants as kind
 use Rattle.rvs_text.specs.Outcomes.{◌>>=◌}
 use Rattle.rvs_elf.specs.Parts.{part}
 use Rattle.rvs_elf.specs.Written as written
-use Rattle.rvs_elf.specs.Written.{elf_of}
 use Rattle.rvs_elf.specs.Header.{is_elf, is_executable, header_of, fields_of}
 use Rattle.rvs_elf.specs.Tables.{segment_of, section_of, all_entries}
 use Rattle.rvs_elf.specs.Tables.{in_file, found, symbol_parts}

@@ -2,16 +2,14 @@
 use Rattle.std.proofs.Common.{◌≡◌, ℕ, Bool, true, Ok, Err, refl, sym, ap, ◌∙◌, List}
 use Rattle.std.proofs.Common.{arith}
 use Rattle.std.proofs.lemmas.Bool.{and_from}
-use Rattle.std.specs.Prelude.{if◌then◌else◌}
 use Rattle.rvs_text.specs.Outcomes.{◌>>=◌, ◌>>◌}
-use Rattle.rvs_expr_text.specs.Refusal.{Found, refused}
+use Rattle.rvs_expr_text.specs.Refusal.{Found}
 use Rattle.rvs_expr_text.specs.Tree as tree
 use Rattle.rvs_expr_text.specs.Tree.{Tree}
 use Rattle.rvs_expr_text.specs.Reading.{tree_of}
 use Rattle.rvs_expr_text.specs.declared.lexeme.Operator.TheVariants as operator
 use Rattle.rvs_expr_text.specs.declared.words.Language.{Language}
 use Rattle.rvs_expr_text.specs.declared.words.Language.TheVariants.{Numbers, Registers}
-use Rattle.rvs_expr_text.specs.declared.refusal.ExprKind.TheVariants.{TooManyConstants}
 use Rattle.rvs_expr.specs.Typed.{Formula, negation}
 use Rattle.rvs_expr.specs.Formulas.{formula_of}
 use Rattle.rvs_expr.specs.Sorts.{known, well_sorted}

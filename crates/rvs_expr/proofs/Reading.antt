@@ -20,7 +20,7 @@ use Rattle.rvs_expr.specs.Meaning.{holds, compare, equation}
 use Rattle.rvs_expr.specs.Parts.{same_name, num_uses, chain_uses, uses}
 use Rattle.rvs_expr.specs.Total.{num_place, reg_place, number, last, linked, reg_number, last_reg}
 use Rattle.rvs_expr.specs.Total.{reg_linked, true_over}
-use Rattle.rvs_expr.specs.Named.{same_reg, is_reg, chain_uses_reg, uses_reg, any_reg, names_of}
+use Rattle.rvs_expr.specs.Named.{is_reg, chain_uses_reg, uses_reg, any_reg, names_of}
 use Rattle.rvs_expr.specs.Named.{asked, sequence, nums_of, asked_regs, regs_of, read, holds_over}
 
 -- ---- truth values and options

@@ -1,5 +1,5 @@
 -- Formulas that say that a name has one value, and the size of constants.
-use Rattle.std.proofs.Common.{◌≡◌, ◌≤◌, ◌^◌, Bool, Option, Some, None, option_map}
+use Rattle.std.proofs.Common.{◌≡◌, ◌≤◌, ◌^◌, Bool, Option, Some, option_map}
 use Rattle.std.proofs.Common.{IfSome, List, [], ◌∷◌, All, arith, rules}
 use Rattle.std.specs.Prelude.{nat_le, if◌then◌else◌, ℤ, unsigned_abs}
 use Rattle.rvs_expr_text.specs.declared.lexeme.NumName.{NumName}

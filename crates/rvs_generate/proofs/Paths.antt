@@ -30,16 +30,17 @@ pub passed-by : (b : Bool) (x y : Option (List ℕ)) → b ≡ false → (if b t
 passed-by b x y e = rw e refl
 
 -- ---- files of a folder, by their names and what these end with
-abbrev named : List ℕ → List ℕ → List ℕ → List ℕ
-named work name ending = work ++ (codes "/" ++ (name ++ ending))
+abbrev in-folder : List ℕ → List ℕ → List ℕ → List ℕ
+in-folder work name ending = work ++ (codes "/" ++ (name ++ ending))
 
-pub same-ending : (work a b ending : List ℕ) → a ≢ b → named work a ending ≢ named work b ending
+pub same-ending : (work a b ending : List ℕ) → a ≢ b
+    → in-folder work a ending ≢ in-folder work b ending
 same-ending work a b ending apart same = apart (append_cancel_right a b ending
     (append_cancel_left (codes "/") (a ++ ending) (b ++ ending) (append_cancel_left work
     (codes "/" ++ (a ++ ending)) (codes "/" ++ (b ++ ending)) same)))
 
 backwards : (work name ending : List ℕ)
-    → reverse (named work name ending) ≡ reverse ending ++ reverse (work ++ (codes "/" ++ name))
+    → reverse (in-folder work name ending) ≡ reverse ending ++ reverse (work ++ (codes "/" ++ name))
 backwards work name ending = ap reverse (sym (append_assoc work (codes "/" ++ name) ending))
     ∙ reverse-append (work ++ (codes "/" ++ name)) ending
 
@@ -47,7 +48,7 @@ backwards work name ending = ap reverse (sym (append_assoc work (codes "/" ++ na
 other-ending : (work a b one other : List ℕ) (k x y : ℕ)
     → ((rest : List ℕ) → slice_get (reverse one ++ rest) k ≡ Some x)
     → ((rest : List ℕ) → slice_get (reverse other ++ rest) k ≡ Some y) → x ≢ y
-    → named work a one ≢ named work b other
+    → in-folder work a one ≢ in-folder work b other
 other-ending work a b one other k x y first second differ same =
     let both : Some x ≡ Some y = sym (first (reverse (work ++ (codes "/" ++ a))))
     ∙ ap (λ (xs : List ℕ). slice_get xs k) (sym (backwards work a one) ∙ ap reverse same

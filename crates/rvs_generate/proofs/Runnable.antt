@@ -1,9 +1,9 @@
 -- A test that is made can be run: an image stands to it, and its run halts within its steps.
-use Rattle.std.proofs.Common.{◌≡◌, ◌||◌, if◌then◌else◌, unwrap_or, ℕ, List, [], ◌∷◌, ◌++◌, All}
-use Rattle.std.proofs.Common.{Option, Some, None, IfSome, Result}
-use Rattle.std.proofs.Common.{Ok, Err, OnOk, refl, sym, ap, subst, ◌∙◌, arith}
-use Rattle.std.proofs.lemmas.List.Elements.{All-append, All-from_recursion}
-use Rattle.rvs_base.specs.declared.memory_refusal.NoMemory as memory
+use Rattle.std.proofs.Common.{◌≡◌, ◌||◌, if◌then◌else◌, unwrap_or, ℕ, Bool, true, List, [], ◌∷◌}
+use Rattle.std.proofs.Common.{map, All, Option, Some, None, Result, Ok, Err, refl, sym, ap, subst}
+use Rattle.std.proofs.Common.{◌∙◌, arith, rules}
+use Rattle.std.proofs.lemmas.List.Elements.{All-nil, All-cons, All-append, All-head, All-tail}
+use Rattle.std.proofs.lemmas.List.Elements.{All-map}
 use Rattle.rvs_plan.specs.declared.stop.Stop.{Stop}
 use Rattle.rvs_plan.specs.declared.stop.Stop.TheVariants.{Usage, Refused, NoFile, CannotRead}
 use Rattle.rvs_plan.specs.declared.stop.Stop.TheVariants.{CannotWrite, CannotRun, NoMemory}
@@ -12,8 +12,16 @@ use Rattle.rvs_insn.specs.Isa.{Isa}
 use Rattle.rvs_asm.specs.Answer.{answer}
 use Rattle.rvs_asm.proofs.Stands.{image_answered}
 use Rattle.rvs_cgf.specs.Groups.{Label}
+use Rattle.rvs_cgf.specs.GroupView.{label_view}
+use Rattle.rvs_points.specs.declared.group.Label.{Label as Code}
+use Rattle.rvs_choice.specs.declared.solved.Solved.{Solved}
 use Rattle.rvs_test_text.specs.declared.claim.Claim.{Claim}
+use Rattle.rvs_test_text.specs.TestText.{step_limit, test_text}
+use Rattle.rvs_test_text.proofs.Fits.{regions_fit}
+use Rattle.rvs_test.specs.Made.{claims_of, cases_of, named_at, text_for, text_of_label}
 use Rattle.rvs_test.specs.Claimed.{TestRuns}
+use Rattle.rvs_test.proofs.Joined.{label_runs}
+use Rattle.rvs_inputs.specs.GroupsView.{groups_view}
 use Rattle.rvs_machine.specs.Image.{ImageValue}
 use Rattle.rvs_machine.specs.ImageText.{image_of_bytes}
 use Rattle.rvs_elf.specs.Executable.{image_of_elf}
@@ -29,44 +37,68 @@ use Rattle.rvs_reference.specs.TestRun.{run_found}
 use Rattle.rvs_reference.specs.TestRun.{then_found, test_found}
 use Rattle.rvs_generate.specs.Tests.{IsRunnable, test_with, run_on, words_of_image, reference_words}
 use Rattle.rvs_generate.specs.Tests.{held, IsReady, elf_of_image, executable_of}
-use Rattle.rvs_generate.specs.declared.sources.Source.{Source}
+use Rattle.rvs_generate.specs.Tests.{tests_of_label, tests_of}
+use Rattle.rvs_generate.specs.Testable.{IsTestable, IsTestableIfSelected}
 use Rattle.rvs_generate.specs.declared.sources.Source.TheVariants.{Held}
 use Rattle.rvs_reference.specs.declared.test_run.Run.{Run}
 use Rattle.rvs_generate.specs.declared.gathering.Test.{Test}
 
-pub runnable : (isa : Isa) (l : Label) (name text : List ℕ) (claims : List Claim) (steps : ℕ)
-    → TestRuns isa l text claims steps
-    → IsRunnable isa (record { name = name; text = text; steps = steps })
-runnable isa l name text claims steps t = record {
-  image = t.image;
-  assembled = image_answered text isa t.image t.assembles;
-  header = t.header;
-  halts = (t.runs steps (omega arith)).halts;
-}
+-- ---- the text of a label's test is that of its cases, and runs as it claims
+pub whole : (isa : Isa) (l : Label) (cs : List Solved) (text : List ℕ)
+    → text_for isa l cs ≡ Some text
+    → test_text l.name isa (map (λ (c : Claim). named_at l c.point) (claims_of isa l)) cs ≡ text
+whole isa l cs text is = grind arith
 
--- the test of a label, where it has one
-all-ready : (isa : Isa) (l : Label) (name : List ℕ) (claims : List Claim) (steps : ℕ)
-    (text : Option (List ℕ)) → IfSome text (λ t. TestRuns isa l t claims steps) → All
-    (IsReady isa) (held (test_with name steps text))
-all-ready isa l name claims steps None runs = All-from_recursion (IsReady isa) [] tt
-all-ready isa l name claims steps (Some text) runs =
-    All-from_recursion (IsReady isa) (Held (record {
-      name = name;
+pub runs-label : (isa : Isa) (l : Label) (text : List ℕ) → IsTestable isa l
+    → text_of_label isa l ≡ Some text
+    → TestRuns isa l text (claims_of isa l) (step_limit (cases_of isa l))
+runs-label isa l text test is = subst
+    (λ (t : List ℕ). TestRuns isa l t (claims_of isa l) (step_limit (cases_of isa l)))
+    (whole isa l (cases_of isa l) text is)
+    (label_runs isa test.place l test.valid (regions_fit isa (cases_of isa l) test.room))
+
+pub runnable : (isa : Isa) (l : Label) (text : List ℕ) → IsTestable isa l
+    → text_of_label isa l ≡ Some text → IsRunnable isa (record {
+      name = l.name;
       text = text;
-      steps = steps;
-    }) ∷ []) (runnable isa l name text claims steps runs, tt)
+      steps = step_limit (cases_of isa l);
+    })
+runnable isa l text test is =
+    let t = runs-label isa l text test is in
+    record {
+      image = t.image;
+      assembled = image_answered text isa t.image t.assembles;
+      header = t.header;
+      halts = (t.runs (step_limit (cases_of isa l)) (omega arith)).halts;
+    }
 
--- tests that can be run, with one more
-pub more-ready : (isa : Isa) (l : Label) (name : List ℕ) (claims : List Claim) (steps : ℕ)
-    (text : Option (List ℕ)) (tests tests' : List Source)
-    (r : Result (Unit {0}) memory.NoMemory)
-    → OnOk r (tests' ≡ tests ++ held (test_with name steps text))
-    → IfSome text (λ t. TestRuns isa l t claims steps)
-    → OnOk r (All (IsReady isa) tests → All (IsReady isa) tests')
-more-ready isa l name claims steps text tests tests' (Ok done) is runs = λ all. subst
-    (λ (ts : List Source). All (IsReady isa) ts) (sym is) (All-append (IsReady isa) tests
-    (held (test_with name steps text)) all (all-ready isa l name claims steps text runs))
-more-ready isa l name claims steps text tests tests' (Err fault) is runs = tt
+-- ---- the tests of labels
+runnable-with : (isa : Isa) (l : Label) (text : Option (List ℕ)) → IsTestable isa l
+    → text_of_label isa l ≡ text
+    → All (IsRunnable isa) (test_with l.name (step_limit (cases_of isa l)) text)
+runnable-with isa l None test is = All-nil (IsRunnable isa)
+runnable-with isa l (Some text) test is =
+    All-cons (IsRunnable isa) _ [] (runnable isa l text test is) (All-nil (IsRunnable isa))
+
+runnable-by : (isa : Isa) (l : Label) (b : Bool) → (b ≡ true → IsTestable isa l)
+    → All (IsRunnable isa)
+    (if b then test_with l.name (step_limit (cases_of isa l)) (text_of_label isa l) else [])
+runnable-by isa l b test = search (rules, runnable-with)
+
+pub runnable-all : (isa : Isa) (ls : List Label) → All (IsTestableIfSelected isa) ls
+    → All (IsRunnable isa) (tests_of isa ls)
+runnable-all isa [] each = All-nil (IsRunnable isa)
+runnable-all isa (l ∷ ls) each =
+    All-append (IsRunnable isa) (tests_of_label isa l) (tests_of isa ls)
+    (runnable-by isa l l.selected (All-head (IsTestableIfSelected isa) l ls each))
+    (runnable-all isa ls (All-tail (IsTestableIfSelected isa) l ls each))
+
+-- the same of labels as the code holds them, and of their tests as they are judged
+pub all-ready : (isa : Isa) (ls : List Code) → All (λ l. IsTestableIfSelected isa (label_view l)) ls
+    → All (IsReady isa) (held (tests_of isa (groups_view ls)))
+all-ready isa ls each =
+    All-map (IsReady isa) (λ (test : Test). Held test) (tests_of isa (groups_view ls))
+    (runnable-all isa (groups_view ls) (All-map (IsTestableIfSelected isa) label_view ls each))
 
 -- the run of the image that stands to it is found, and leaves the words of the reference machine
 pub runs-found : (isa : Isa) (name : List ℕ) (test : Test) (image : ImageValue)

@@ -1,11 +1,12 @@
 -- What it means that no label lacks room.
-use Rattle.std.proofs.Common.{◌≡◌, Bool, true, false, List, [], ◌∷◌, All, Option, Some, None}
+use Rattle.std.proofs.Common.{◌≡◌, Bool, true, false, List, [], ◌∷◌, map, All, Option, Some, None}
 use Rattle.std.proofs.Common.{◌&&◌, cond, ℕ, IfOk, Result, Ok, Err, refl, sym, ap}
 use Rattle.std.specs.Prelude.{not, find, option_map}
-use Rattle.std.proofs.lemmas.List.Elements.{All-nil, All-cons, All-head, All-tail}
+use Rattle.std.proofs.lemmas.List.Elements.{All-nil, All-cons, All-head, All-tail, All-map}
 use Rattle.rvs_plan.specs.declared.stop.Stop.{Stop}
 use Rattle.rvs_plan.specs.declared.stop.Stop.TheVariants.{Refused}
 use Rattle.rvs_insn.specs.Isa.{Isa}
+use Rattle.rvs_insn.specs.Memory.{HasRoom}
 use Rattle.rvs_cgf.specs.Groups.{Label}
 use Rattle.rvs_cgf.specs.GroupView.{label_view}
 use Rattle.rvs_points.specs.Valid.{IsValidIfSelected}
@@ -27,10 +28,10 @@ pub has-room : (isa : Isa) (l : Label) → lacks_room isa l ≡ false → l.sele
 unfolding lacks_room
 has-room isa l has selected = has-by l.selected (has_room isa l) has selected
 
-pub testable : (isa : Isa) (l : Label) → IsValidIfSelected isa l → lacks_room isa l ≡ false
-    → IsTestableIfSelected isa l
-testable isa l valid has selected =
-    record { valid = valid selected; room = has-room isa l has selected }
+testable : (isa : Isa) (l : Label) → HasRoom isa.memory → IsValidIfSelected isa l
+    → lacks_room isa l ≡ false → IsTestableIfSelected isa l
+testable isa l place valid has selected =
+    record { place = place; valid = valid selected; room = has-room isa l has selected }
 
 -- ---- of all labels none is found that lacks it
 pub none-first : {A : Type 0} (b : Bool) (x : A) (rest : Option A) → cond b (Some x) rest ≡ None
@@ -43,35 +44,32 @@ pub none-behind : {A : Type 0} (b : Bool) (x : A) (rest : Option A) → cond b (
 none-behind true x rest none = absurd cc
 none-behind false x rest none = none
 
-pub all-testable : (isa : Isa) (ls : List Label) → All (IsValidIfSelected isa) ls
-    → find (lacks_room isa) ls ≡ None → All (IsTestableIfSelected isa) ls
-all-testable isa [] valid none = All-nil (IsTestableIfSelected isa)
-all-testable isa (l ∷ ls) valid none =
+pub all-testable : (isa : Isa) (ls : List Label) → HasRoom isa.memory
+    → All (IsValidIfSelected isa) ls → find (lacks_room isa) ls ≡ None
+    → All (IsTestableIfSelected isa) ls
+all-testable isa [] place valid none = All-nil (IsTestableIfSelected isa)
+all-testable isa (l ∷ ls) place valid none =
     let rest = find (lacks_room isa) ls in
     All-cons (IsTestableIfSelected isa) l ls
-    (testable isa l (All-head (IsValidIfSelected isa) l ls valid)
+    (testable isa l place (All-head (IsValidIfSelected isa) l ls valid)
     (none-first (lacks_room isa l) l rest none))
-    (all-testable isa ls (All-tail (IsValidIfSelected isa) l ls valid)
+    (all-testable isa ls place (All-tail (IsValidIfSelected isa) l ls valid)
     (none-behind (lacks_room isa l) l rest none))
 
 -- the same of labels as the code holds them
-abbrev ValidCode : Isa → Code → Type 0
-ValidCode isa l = IsValidIfSelected isa (label_view l)
+all-mapped : {A B : Type 0} (P : B → Type 0) (f : A → B) (xs : List A) → All P (map f xs)
+    → All (λ x. P (f x)) xs
+all-mapped P f [] all = All-nil (λ x. P (f x))
+all-mapped P f (x ∷ xs) all = All-cons (λ y. P (f y)) x xs (All-head P (f x) (map f xs) all)
+    (all-mapped P f xs (All-tail P (f x) (map f xs) all))
 
-abbrev TestableCode : Isa → Code → Type 0
-TestableCode isa l = IsTestableIfSelected isa (label_view l)
-
-pub code-testable : (isa : Isa) (ls : List Code) → All (ValidCode isa) ls
-    → find (lacks_room isa) (groups_view ls) ≡ None → All (TestableCode isa) ls
-code-testable isa [] valid none = All-nil (TestableCode isa)
-code-testable isa (l ∷ ls) valid none =
-    let rest = find (lacks_room isa) (groups_view ls) in
-    let seen = label_view l in
-    All-cons (TestableCode isa) l ls
-    (testable isa seen (All-head (ValidCode isa) l ls valid)
-    (none-first (lacks_room isa seen) seen rest none))
-    (code-testable isa ls (All-tail (ValidCode isa) l ls valid)
-    (none-behind (lacks_room isa seen) seen rest none))
+pub code-testable : (isa : Isa) (ls : List Code) → HasRoom isa.memory
+    → All (λ l. IsValidIfSelected isa (label_view l)) ls
+    → find (lacks_room isa) (groups_view ls) ≡ None
+    → All (λ l. IsTestableIfSelected isa (label_view l)) ls
+code-testable isa ls place valid none =
+    all-mapped (IsTestableIfSelected isa) label_view ls (all-testable isa (groups_view ls) place
+    (All-map (IsValidIfSelected isa) label_view ls valid) none)
 
 -- ---- what the text of a refusal says
 pub none-said : (inputs : Inputs) (o : Option Label) → None ≡ option_map no_room o

@@ -1,15 +1,16 @@
 -- What `generate` puts: the cases, what is left, and how many tests there are.
-use Rattle.std.specs.Prelude.{ℕ, ◌+◌, ◌==◌, min, if◌then◌else◌, List, [], ◌∷◌}
+use Rattle.std.specs.Prelude.{ℕ, ◌+◌, min, if◌then◌else◌, List, [], ◌∷◌}
 use Rattle.std.specs.Prelude.{◌++◌, length, Option, Some, None, codes}
 use Rattle.std.specs.List.{flat_map}
 use Rattle.std.specs.Fmt.{decimal}
 use Rattle.rvs_insn.specs.Isa.{Isa}
 use Rattle.rvs_cgf.specs.Groups.{Label, Point}
 use Rattle.rvs_points.specs.Kinds.{kind_name}
-use Rattle.rvs_count.specs.Report.{skipped_line}
+use Rattle.rvs_count.specs.Report.{skipped_line, unselected_line}
 use Rattle.rvs_test_text.specs.declared.claim.Claim.{Claim}
 use Rattle.rvs_test.specs.Made.{claims_of, unsolved_of, cases_of, text_of_label}
 use Rattle.rvs_test_text.specs.TestText.{step_limit}
+use Rattle.rvs_test_text.specs.Claims.{case_at, claims_after}
 
 -- a point that a case hits
 abbrev pub case_line : ℕ → Point → List ℕ
@@ -24,16 +25,6 @@ unsolved_line p = codes "unsolved " ++ (kind_name p.kind ++ (codes " " ++ (p.key
 abbrev pub point_line : Option ℕ → Point → List ℕ
 point_line None p = unsolved_line p
 point_line (Some case) p = case_line case p
-
--- the case of the k-th point, where the first of the claims that are left is of that point
-abbrev pub case_at : List Claim → ℕ → Option ℕ
-case_at [] k = None
-case_at (c ∷ cs) k = if c.point == k then Some c.case else None
-
--- the claims that are left behind it
-abbrev pub claims_after : List Claim → ℕ → List Claim
-claims_after [] k = []
-claims_after (c ∷ cs) k = if c.point == k then cs else c ∷ cs
 
 -- the points from the k-th on, in their order, with the claims of them, which are in that order too
 abbrev pub point_lines : List Claim → ℕ → List Point → List ℕ
@@ -61,7 +52,7 @@ selected_text isa l =
 
 abbrev pub label_text : Isa → Label → List ℕ
 label_text isa l = if l.selected then selected_text isa l
-    else codes "label " ++ (l.name ++ codes " unselected\n")
+    else unselected_line l.name
 
 -- how many tests, cases, points without one, and skipped entries there are
 pub record Totals : Type 0 where

@@ -1,18 +1,19 @@
 // The tests of all labels at once.
-ghost use Rattle.std.specs.Prelude.{◌≡◌, ◌++◌, All, IfOk, IfSome, OnOk};
+ghost use Rattle.std.specs.Prelude.{◌≡◌, ◌++◌, All, IfOk, OnOk};
 ghost use Rattle.rvs_cgf.specs.GroupView.{label_view};
+ghost use Rattle.rvs_points.specs.Valid.{IsValidIfSelected};
 ghost use Rattle.rvs_generate.specs.GenerateTexts as texts;
 ghost use Rattle.rvs_generate.specs.GenerateView.{totals_view};
 ghost use Rattle.rvs_inputs.specs.GroupsView.{groups_view};
-ghost use Rattle.rvs_generate.specs.Testable.{IsTestableIfSelected};
 ghost use Rattle.rvs_generate.specs.Generate.{IsSaid};
-ghost use Rattle.rvs_generate.specs.Tests.{IsReady, held, test_with, tests_of_label, tests_of};
+ghost use Rattle.rvs_generate.specs.Tests.{held, test_with, tests_of_label, tests_of};
 
-use crate::listing::{push_total, push_unselected};
+use crate::listing::push_total;
 use crate::making::{Said, say_made};
 use crate::sources::Source;
 use rvs_base::{Items, NoMemory, Text};
 use rvs_cgf::Label;
+use rvs_count::push_unselected;
 use rvs_inputs::Inputs;
 use rvs_insn::IsaSpec;
 use rvs_words::owned;
@@ -48,12 +49,11 @@ pub struct Gathered {
 ///
 /// [`NoMemory`].
 pub fn gather_tests(alloc: Global, inputs: &Inputs) -> Result<Gathered, NoMemory>
-    requires { All (λ l. IsTestableIfSelected inputs.now.isa (label_view l)) inputs.now.groups }
+    requires { All (λ l. IsValidIfSelected inputs.now.isa (label_view l)) inputs.now.groups }
     ensures text { IfOk result (λ g.
         g.text ≡ texts.listing inputs.now.isa (groups_view inputs.now.groups)) }
     ensures tests { IfOk result (λ g.
         g.tests ≡ held (tests_of inputs.now.isa (groups_view inputs.now.groups))) }
-    ensures runs { IfOk result (λ g. All (IsReady inputs.now.isa) g.tests) }
 {
     let gathering = gather_labels(alloc, &inputs.isa, inputs.groups.as_slice())?;
     let Gathering { said, tests } = gathering;
@@ -72,11 +72,10 @@ fn with_total(alloc: Global, said: Said) -> Result<Text, NoMemory>
 }
 
 fn gather_labels(alloc: Global, isa: &IsaSpec, labels: &[Label]) -> Result<Gathering, NoMemory>
-    requires { All (λ l. IsTestableIfSelected isa.now (label_view l)) labels.now }
+    requires { All (λ l. IsValidIfSelected isa.now (label_view l)) labels.now }
     ensures said { IfOk result (λ g.
         IsSaid isa.now (groups_view labels.now) g.said.text (totals_view g.said.totals)) }
     ensures tests { IfOk result (λ g. g.tests ≡ held (tests_of isa.now (groups_view labels.now))) }
-    ensures runs { IfOk result (λ g. All (IsReady isa.now) g.tests) }
 {
     let mut said = Said::nothing(alloc);
     let mut tests = Items::new(alloc);
@@ -94,15 +93,13 @@ fn gather_label(
     said: &mut Said,
     tests: &mut Items<Source>,
 ) -> Result<(), NoMemory>
-    requires { IsTestableIfSelected isa.now (label_view label.now) }
+    requires { IsValidIfSelected isa.now (label_view label.now) }
     ensures text { OnOk result (said.new.text
         ≡ said.old.text ++ texts.label_text isa.now (label_view label.now)) }
     ensures totals { OnOk result (totals_view said.new.totals
         ≡ texts.with_label isa.now (totals_view said.old.totals) (label_view label.now)) }
     ensures tests { OnOk result (tests.new
         ≡ tests.old ++ held (tests_of_label isa.now (label_view label.now))) }
-    ensures runs { OnOk result (All (IsReady isa.now) tests.old
-        → All (IsReady isa.now) tests.new) }
 {
     if label.selected {
         let made = say_made(alloc, isa, label, said)?;

@@ -5,20 +5,21 @@ ghost use Rattle.rvs_base.specs.Sink.{SinkState};
 ghost use Rattle.rvs_plan.specs.World.{world};
 ghost use Rattle.rvs_plan.specs.Meets.{Meets};
 ghost use Rattle.rvs_cgf.specs.GroupView.{label_view};
+ghost use Rattle.rvs_points.specs.Valid.{IsValid, IsValidIfSelected};
 ghost use Rattle.rvs_test.specs.Made.{text_of_label};
 ghost use Rattle.rvs_generate.specs.GenerateTexts as texts;
 ghost use Rattle.rvs_generate.specs.GenerateView.{totals_view};
 ghost use Rattle.rvs_inputs.specs.GroupsView.{groups_view, inputs_view};
-ghost use Rattle.rvs_generate.specs.Testable.{IsTestable, IsTestableIfSelected};
 ghost use Rattle.rvs_generate.specs.Generate.{IsSaid, done, path_of, writes_text, writes_test};
 ghost use Rattle.rvs_generate.specs.Generate.{writes_tests, written_tests, generate};
 
-use crate::listing::{push_total, push_unselected};
+use crate::listing::push_total;
 use crate::making::{Said, say_made};
 use crate::rooms::read_labels;
 use crate::test_files::test_path;
 use rvs_base::{Host, Sink, Text};
 use rvs_cgf::Label;
+use rvs_count::push_unselected;
 use rvs_inputs::{Inputs, print_text};
 use rvs_insn::IsaSpec;
 use rvs_plan::{Finish, Stop, write_output};
@@ -61,7 +62,7 @@ fn write_tests<H: Host>(
     work: &Text,
     inputs: &Inputs,
 ) -> Result<Text, Stop>
-    requires { All (λ l. IsTestableIfSelected inputs.now.isa (label_view l)) inputs.now.groups }
+    requires { All (λ l. IsValidIfSelected inputs.now.isa (label_view l)) inputs.now.groups }
     ensures { (out : SinkState) → Meets
         (written_tests work.now inputs.now.isa (groups_view inputs.now.groups))
         (world (H.state host.old) out) (world (H.state host.new) out) result }
@@ -80,7 +81,7 @@ fn write_labels<H: Host>(
     isa: &IsaSpec,
     labels: &[Label],
 ) -> Result<Said, Stop>
-    requires { All (λ l. IsTestableIfSelected isa.now (label_view l)) labels.now }
+    requires { All (λ l. IsValidIfSelected isa.now (label_view l)) labels.now }
     ensures met { (out : SinkState) → Meets
         (writes_tests work.now isa.now (groups_view labels.now))
         (world (H.state host.old) out) (world (H.state host.new) out) (done result) }
@@ -103,7 +104,7 @@ fn write_test<H: Host>(
     label: &Label,
     said: &mut Said,
 ) -> Result<(), Stop>
-    requires { IsTestableIfSelected isa.now (label_view label.now) }
+    requires { IsValidIfSelected isa.now (label_view label.now) }
     ensures met { (out : SinkState) → Meets (writes_test work.now isa.now (label_view label.now))
         (world (H.state host.old) out) (world (H.state host.new) out) result }
     ensures text { OnOk result (said.new.text
@@ -126,7 +127,7 @@ fn write_selected<H: Host>(
     label: &Label,
     said: &mut Said,
 ) -> Result<(), Stop>
-    requires { IsTestable isa.now (label_view label.now) }
+    requires { IsValid isa.now (label_view label.now) }
     ensures met { (out : SinkState) → Meets
         (writes_text (path_of work.now label.now.name)
         (text_of_label isa.now (label_view label.now)))

@@ -1,14 +1,14 @@
 // What `generate` puts.
 ghost use Rattle.std.specs.Prelude.{◌≡◌, ◌++◌, ◌≤◌, IfOk, IsTrue, OnOk, codes, map, length};
-ghost use Rattle.std.specs.List.{flat_map};
-ghost use Rattle.rvs_cgf.specs.GroupView.{label_view, point_view, skipped_view};
-ghost use Rattle.rvs_count.specs.Report.{skipped_line};
+ghost use Rattle.rvs_cgf.specs.GroupView.{label_view, point_view};
 ghost use Rattle.rvs_generate.specs.GenerateTexts as spec;
 ghost use Rattle.rvs_generate.specs.GenerateView.{totals_view};
 
 use rvs_base::{NoMemory, Text};
-use rvs_cgf::{Label, Point, Skipped};
+use rvs_cgf::{Label, Point};
+use rvs_count::push_skipped;
 use rvs_test::{Claim, Made};
+use rvs_test_text::{case_at, claims_after};
 use std::alloc::Global;
 
 /// How many tests, cases, points without one and skipped entries there are. A number stands at
@@ -53,28 +53,6 @@ fn push_point(
     }
 }
 
-/// The case of a point, where the first claim is of it.
-fn case_at(claims: &[Claim], place: usize) -> Option<usize>
-    ensures { result ≡ spec.case_at claims.now place }
-{
-    let claim = claims.first()?;
-    if claim.point == place {
-        Some(claim.case)
-    } else {
-        None
-    }
-}
-
-/// The claims behind that one.
-fn claims_after(claims: &[Claim], place: usize) -> &[Claim]
-    ensures { result.now ≡ spec.claims_after claims.now place }
-{
-    match claims {
-        [claim, after @ ..] if claim.point == place => after,
-        _ => claims,
-    }
-}
-
 /// Adds the points in their order, each with its case or without. The claims are in the order of
 /// their points.
 #[tactic(auto, using(crate::proofs::Listings::lines_more, crate::proofs::Listings::lines_all))]
@@ -91,26 +69,6 @@ fn push_points(
     for (place, point) in points.iter().enumerate() {
         push_point(alloc, text, case_at(rest, place), point)?;
         rest = claims_after(rest, place);
-    }
-    Ok(())
-}
-
-fn push_skipped_line(alloc: Global, text: &mut Text, skipped: &Skipped) -> Result<(), NoMemory>
-    ensures { OnOk result (text.new ≡ text.old ++ skipped_line (skipped_view skipped.now)) }
-{
-    let node = skipped.node.as_str();
-    let key = skipped.key.as_str();
-    let line = format!(in alloc; "skipped {node} {key}\n")?;
-    text.push_str(line.as_str())
-}
-
-#[tactic(auto, using(crate::proofs::Listings::skipped_more, crate::proofs::Listings::skipped_all))]
-fn push_skipped(alloc: Global, text: &mut Text, skipped: &[Skipped]) -> Result<(), NoMemory>
-    ensures { OnOk result (text.new
-        ≡ text.old ++ flat_map skipped_line (map skipped_view skipped.now)) }
-{
-    for one in skipped {
-        push_skipped_line(alloc, text, one)?;
     }
     Ok(())
 }
@@ -134,20 +92,6 @@ fn push_name(alloc: Global, text: &mut Text, label: &Label) -> Result<(), NoMemo
     text.push_str(line.as_str())
 }
 
-/// Adds a label that isn't selected.
-///
-/// # Errors
-///
-/// [`NoMemory`].
-pub fn push_unselected(alloc: Global, text: &mut Text, label: &Label) -> Result<(), NoMemory>
-    ensures { OnOk result (text.new
-        ≡ text.old ++ (codes "label " ++ (label.now.name ++ codes " unselected\n"))) }
-{
-    let name = label.name.as_str();
-    let line = format!(in alloc; "label {name} unselected\n")?;
-    text.push_str(line.as_str())
-}
-
 /// Adds a label with what was made of it.
 ///
 /// # Errors
@@ -164,8 +108,7 @@ pub fn push_made(alloc: Global, text: &mut Text, label: &Label, made: &Made) -> 
 }
 
 fn tests_in(made: &Made) -> u64
-    ensures value { result ≡ spec.tests_in made.now.text }
-    ensures small { result ≤ 1 }
+    ensures { result ≡ spec.tests_in made.now.text }
 {
     if made.text.is_some() { 1 } else { 0 }
 }

@@ -1,10 +1,9 @@
 // What is made of labels, and said of them.
-ghost use Rattle.std.specs.Prelude.{◌≡◌, ◌<◌, ◌++◌, [], IfOk, IfSome, OnOk};
+ghost use Rattle.std.specs.Prelude.{◌≡◌, ◌<◌, ◌++◌, [], IfOk, OnOk};
 ghost use Rattle.rvs_cgf.specs.GroupView.{label_view};
-ghost use Rattle.rvs_test.specs.Claimed.{TestRuns};
+ghost use Rattle.rvs_points.specs.Valid.{IsValid};
 ghost use Rattle.rvs_generate.specs.GenerateTexts as texts;
 ghost use Rattle.rvs_generate.specs.GenerateView.{IsMade, totals_view};
-ghost use Rattle.rvs_generate.specs.Testable.{IsTestable};
 
 use crate::listing::{Totals, push_made};
 use rvs_base::{NoMemory, Text};
@@ -48,10 +47,8 @@ pub fn say_made(
     label: &Label,
     said: &mut Said,
 ) -> Result<Made, NoMemory>
-    requires { IsTestable isa.now (label_view label.now) }
+    requires { IsValid isa.now (label_view label.now) }
     ensures made { IfOk result (λ m. IsMade isa.now (label_view label.now) m) }
-    ensures runs { IfOk result (λ m. IfSome m.text (λ text.
-        TestRuns isa.now (label_view label.now) text m.claims m.steps)) }
     ensures text { OnOk result (said.new.text ≡ said.old.text
         ++ texts.selected_text isa.now (label_view label.now)) }
     ensures totals { OnOk result (totals_view said.new.totals
@@ -65,10 +62,8 @@ pub fn say_made(
 
 /// The test of a label.
 pub fn made_of(alloc: Global, label: &Label, isa: &IsaSpec) -> Result<Made, NoMemory>
-    requires { IsTestable isa.now (label_view label.now) }
-    ensures made { IfOk result (λ m. IsMade isa.now (label_view label.now) m) }
-    ensures runs { IfOk result (λ m. IfSome m.text (λ text.
-        TestRuns isa.now (label_view label.now) text m.claims m.steps)) }
+    requires { IsValid isa.now (label_view label.now) }
+    ensures { IfOk result (λ m. IsMade isa.now (label_view label.now) m) }
 {
     make_counted::<Brand>(Blank::new(1), alloc, label, isa)
 }
@@ -83,10 +78,8 @@ fn make_counted<L: Ledger>(
     requires name { blank.name ≡ L.name }
     requires parts { blank.parts ≡ L.parts }
     requires some { 0 < blank.parts }
-    requires testable { IsTestable isa.now (label_view label.now) }
-    ensures made { IfOk result (λ m. IsMade isa.now (label_view label.now) m) }
-    ensures runs { IfOk result (λ m. IfSome m.text (λ text.
-        TestRuns isa.now (label_view label.now) text m.claims m.steps)) }
+    requires valid { IsValid isa.now (label_view label.now) }
+    ensures { IfOk result (λ m. IsMade isa.now (label_view label.now) m) }
 {
     let mut steps: Steps<L> = Steps::new(blank, Free::new());
     make_test(alloc, label, isa, &mut steps)

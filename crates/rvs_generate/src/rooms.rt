@@ -4,6 +4,7 @@ ghost use Rattle.rvs_base.specs.Sink.{SinkState};
 ghost use Rattle.rvs_plan.specs.World.{World, world};
 ghost use Rattle.rvs_plan.specs.Plan.{Ends};
 ghost use Rattle.rvs_plan.specs.Meets.{Meets};
+ghost use Rattle.rvs_insn.specs.Memory.{HasRoom};
 ghost use Rattle.rvs_cgf.specs.GroupView.{label_view};
 ghost use Rattle.rvs_points.specs.Valid.{IsValid, IsValidIfSelected};
 ghost use Rattle.rvs_test.specs.Made as made;
@@ -19,10 +20,10 @@ use rvs_base::{Host, Items, NoMemory, Text};
 use rvs_cgf::{CgfKind, CgfRefusal, Label};
 use rvs_expr::Steps;
 use rvs_free::Free;
-use rvs_inputs::{Inputs, group_text, kept_labels, read_inputs};
+use rvs_inputs::{GROUPS_NAME, Inputs, kept_labels, read_inputs};
 use rvs_insn::IsaSpec;
 use rvs_parts::Part;
-use rvs_plan::Stop;
+use rvs_plan::{Stop, input_text};
 use rvs_test::has_room;
 use rvs_words::owned;
 use std::alloc::Global;
@@ -58,10 +59,18 @@ fn with_room(alloc: Global, inputs: Inputs) -> Result<Inputs, Stop>
     ensures testable { IfOk result (λ i.
         All (λ l. IsTestableIfSelected i.isa (label_view l)) i.groups) }
 {
+    memory_has_room(&inputs.isa);
     match first_lacking(alloc, &inputs.isa, inputs.groups.as_slice())? {
         None => Ok(inputs),
         Some(text) => Err(Stop::Refused(text)),
     }
+}
+
+/// That the memory of a core has room at all: an invariant of its type, which the call here brings.
+fn memory_has_room(isa: &IsaSpec)
+    ensures { HasRoom isa.now.memory }
+{
+    let _limit = isa.memory.text_limit();
 }
 
 /// Why labels are refused: the first that is selected and for whose test the core has no room.
@@ -126,7 +135,7 @@ fn no_room(alloc: Global, label: &Label) -> Result<Text, NoMemory>
         key: Text::new(alloc),
         kind: CgfKind::NoRoom,
     };
-    group_text(alloc, &refusal)
+    input_text(alloc, GROUPS_NAME, &refusal)
 }
 
 /// Reads an ISA file, and then coverage group files for its core, of which the labels of a part are

@@ -1,5 +1,5 @@
 -- Lists whose points ask for one of two values.
-use Rattle.std.proofs.Common.{◌≡◌, ℕ, suc, ℤ, ◌+◌, ◌<◌, Bool, true, false, ◌&&◌}
+use Rattle.std.proofs.Common.{◌≡◌, ℕ, suc, ℤ, ◌+◌, ◌<◌, Bool, true, false}
 use Rattle.std.proofs.Common.{◌||◌, List, [], ◌∷◌, Option, Some, refl, sym, ap, ◌∙◌}
 use Rattle.std.proofs.Common.{arith, length, get_or}
 use Rattle.std.proofs.lemmas.Bool.Decides.{nat_tests}

@@ -7,7 +7,7 @@ use Rattle.std.proofs.Common.{subst}
 use Rattle.std.proofs.Common.{◌∙◌, All, arith, length, get_or, rules}
 use Rattle.std.proofs.lemmas.Bool.Decides.{nat_tests}
 use Rattle.std.specs.Ordering.{int_eq}
-use Rattle.std.specs.Prelude.{◌==◌, nat_lt, option_map, unsigned_abs}
+use Rattle.std.specs.Prelude.{nat_lt, option_map, unsigned_abs}
 use Rattle.rvs_points.proofs.Distinct.{both-ways}
 use Rattle.rvs_points.specs.PointView.{point_view}
 use Rattle.rvs_points.specs.Hits.{holds, is_register}

@@ -2,8 +2,7 @@
 use Rattle.std.proofs.Common.{◌≡◌, ℕ, ℤ, ◌+◌, ◌<◌, ◌≤◌, ◌⊎◌, inl, inr, Bool, true}
 use Rattle.std.proofs.Common.{false, cond, List, [], ◌∷◌, Option, Some, None, refl, sym, ◌∙◌}
 use Rattle.std.proofs.Common.{arith, rules}
-use Rattle.std.specs.Prelude.{◌==◌, ◌&&◌, option_map}
-use Rattle.rvs_points.proofs.Distinct.{and-right, and-left}
+use Rattle.std.specs.Prelude.{◌==◌, option_map}
 use Rattle.rvs_points.specs.Points.{Point, Meaning, op_is, reg_is, regs, nums, window}
 use Rattle.rvs_points.specs.Hits.{holds, is_meant, is_register}
 use Rattle.rvs_points.specs.declared.group.Kind.{Kind}

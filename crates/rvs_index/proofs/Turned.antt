@@ -1,8 +1,7 @@
 -- What expressions say by signs.
 use Rattle.std.proofs.Common.{◌≡◌, ℕ, Bool, ◌&&◌, Option, Some, option_map}
 use Rattle.std.proofs.Common.{IfSome, arith}
-use Rattle.std.specs.Prelude.{◌==◌, ℤ}
-use Rattle.std.proofs.lemmas.Bool.Decides.{nat_tests}
+use Rattle.std.specs.Prelude.{ℤ}
 use Rattle.rvs_expr_text.specs.declared.lexeme.RegName.{RegName}
 use Rattle.rvs_expr_text.specs.declared.lexeme.NumName.TheVariants.{ImmVal}
 use Rattle.rvs_expr.specs.declared.formula.Comparison.TheVariants.{Equal}

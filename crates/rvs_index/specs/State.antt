@@ -1,6 +1,6 @@
 -- What a counter has after some bytes of a log.
 use Rattle.std.specs.Prelude.{ℕ, ◌+◌, ◌≤◌, ◌||◌, Bool, true, false, if◌then◌else◌, List, [], ◌∷◌}
-use Rattle.std.specs.Prelude.{cond, map, length, Option, Some}
+use Rattle.std.specs.Prelude.{cond, map, length, Some}
 use Rattle.std.specs.List.{list_any}
 use Rattle.std.proofs.Common.{arith}
 use Rattle.rvs_log.specs.Grammar.{Reading, Says, Writes, Nothing}

@@ -5,14 +5,16 @@ use Rattle.rvs_base.specs.Host.{Files}
 use Rattle.rvs_abstract.specs.declared.families.Families.{Families}
 use Rattle.rvs_plan.specs.Plan.{Plan, Ends, gives, ◌>>=◌}
 use Rattle.rvs_plan.specs.Inputs.{part, too_long_text}
+use Rattle.rvs_plan.specs.Refusing.{end_at}
 use Rattle.rvs_plan.specs.declared.stop.Stop.{Stop}
 use Rattle.rvs_plan.specs.declared.stop.Stop.TheVariants.{Refused, NoFile}
 use Rattle.rvs_yaml.specs.Parsed.{Parsed, answer}
 use Rattle.rvs_insn.specs.Isa.{Isa}
 use Rattle.rvs_cgf.specs.Groups.{Label, Refusal, groups_of}
+use Rattle.rvs_cgf.specs.Print.{refusal_text}
 use Rattle.rvs_inputs.specs.Specification.{yaml_text, said_in, specification}
 use Rattle.rvs_parts.specs.Parts.{PartValue, parted}
-use Rattle.rvs_inputs.specs.GroupTexts.{groups_name, group_text}
+use Rattle.rvs_inputs.specs.GroupTexts.{groups_name}
 
 -- all group files together, with the line feeds between them, have at most this many bytes: 4 MiB
 abbrev pub groups_limit : ℕ
@@ -46,8 +48,7 @@ text_in files front (name ∷ names) =
     and_then (join_found front name (files name)) (λ text. text_in files (Some text) names)
 
 abbrev pub checked_groups : Result (List Label) Refusal → Result (List Label) Stop
-checked_groups (Ok groups) = Ok groups
-checked_groups (Err refusal) = Err (Refused (group_text refusal))
+checked_groups found = end_at refusal_text groups_name found
 
 abbrev pub tree_groups : Isa → Families → Parsed → Result (List Label) Stop
 tree_groups isa families (Ok tree) = checked_groups (groups_of isa families tree)

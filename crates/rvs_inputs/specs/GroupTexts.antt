@@ -1,5 +1,6 @@
 -- Why coverage groups are refused.
-use Rattle.std.specs.Prelude.{ℕ, List, ◌++◌, codes}
+use Rattle.std.specs.Prelude.{ℕ, List, codes}
+use Rattle.rvs_plan.specs.Refusing.{input_text}
 use Rattle.rvs_cgf.specs.Groups.{Refusal}
 use Rattle.rvs_cgf.specs.Print.{refusal_text}
 
@@ -8,5 +9,5 @@ abbrev pub groups_name : List ℕ
 groups_name = codes "coverage files"
 
 -- why the groups are refused: the first rule that is broken, and where
-unfoldable pub group_text : Refusal → List ℕ
-group_text r = groups_name ++ (codes ": " ++ refusal_text r)
+abbrev pub group_text : Refusal → List ℕ
+group_text r = input_text groups_name (refusal_text r)

@@ -1,13 +1,13 @@
 -- What comes of an ISA file.
-use Rattle.std.specs.Prelude.{ℕ, List, ◌++◌, Result, Ok, Err, codes, decimal}
+use Rattle.std.specs.Prelude.{ℕ, List, Result, Ok, Err}
 use Rattle.rvs_base.specs.Host.{Files}
 use Rattle.rvs_plan.specs.Plan.{Plan, Ends, ◌>>=◌}
 use Rattle.rvs_plan.specs.Inputs.{input, part_end}
-use Rattle.rvs_plan.specs.Refusing.{end_at}
+use Rattle.rvs_plan.specs.Refusing.{end_at, input_text}
 use Rattle.rvs_plan.specs.declared.stop.Stop.{Stop}
 use Rattle.rvs_plan.specs.declared.stop.Stop.TheVariants.{Refused}
 use Rattle.rvs_yaml.specs.Parsed.{Parsed, answer}
-use Rattle.rvs_yaml_text.specs.Kinds.{number_of}
+use Rattle.rvs_yaml.specs.Refusing.{refusal_text as tree_text}
 use Rattle.rvs_yaml_text.specs.declared.kind.YamlKind.{YamlKind}
 use Rattle.rvs_isa.specs.Check.{checked}
 use Rattle.rvs_isa.specs.Print.{refusal_text}
@@ -20,9 +20,8 @@ isa_limit = 65536
 
 -- why the named file has no tree: its first faulty line, counted from 1, and the number of the
 -- fault's kind
-unfoldable pub yaml_text : List ℕ → ℕ → YamlKind → List ℕ
-yaml_text name line kind =
-    name ++ (codes ": yaml " ++ (decimal (number_of kind) ++ (codes " line " ++ decimal line)))
+abbrev pub yaml_text : List ℕ → ℕ → YamlKind → List ℕ
+yaml_text name line kind = input_text name (tree_text (line, kind))
 
 abbrev pub checked_end : List ℕ → Result AcceptedSpec IsaRefusal → Result AcceptedSpec Stop
 checked_end name found = end_at refusal_text name found

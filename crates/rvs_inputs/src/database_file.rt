@@ -7,7 +7,6 @@ ghost use Rattle.rvs_tree.specs.TreeView.{view};
 ghost use Rattle.rvs_select.specs.Database.{database_of};
 ghost use Rattle.rvs_inputs.specs.DatabaseInput.{checked_end, checks, database_file};
 
-use crate::isa_file::yaml_text;
 use rvs_base::{Host, Text};
 use rvs_insn::IsaSpec;
 use rvs_plan::{Stop, accepted, read_input};
@@ -40,10 +39,8 @@ pub fn read_database_file<H: Host>(
 fn check_bytes(alloc: Global, isa: &IsaSpec, name: &str, bytes: &[u8]) -> Result<Database, Stop>
     ensures { (w : World) → Meets (checks isa.now name.now bytes.now) w w result }
 {
-    match parse(alloc, bytes) {
-        Ok(tree) => check_tree(alloc, isa, name, &tree),
-        Err(refusal) => Err(Stop::Refused(yaml_text(alloc, name, &refusal)?)),
-    }
+    let tree = accepted(alloc, name, parse(alloc, bytes))?;
+    check_tree(alloc, isa, name, &tree)
 }
 
 fn check_tree(alloc: Global, isa: &IsaSpec, name: &str, tree: &Tree) -> Result<Database, Stop>

@@ -9,7 +9,6 @@ ghost use Rattle.rvs_device.specs.DeviceView.{told};
 ghost use Rattle.rvs_inputs.specs.Seen.{seen};
 ghost use Rattle.rvs_inputs.specs.DeviceInput.{checked_end, checks, device_file};
 
-use crate::isa_file::yaml_text;
 use rvs_base::{Host, Text};
 use rvs_device::{Device, read_device};
 use rvs_plan::{Stop, accepted, read_input};
@@ -36,10 +35,8 @@ pub fn read_device_file<H: Host>(alloc: Global, host: &mut H, name: &Text) -> Re
 fn check_bytes(alloc: Global, name: &str, bytes: &[u8]) -> Result<Device, Stop>
     ensures { (w : World) → Meets (checks name.now bytes.now) w w (seen told result) }
 {
-    match parse(alloc, bytes) {
-        Ok(tree) => check_tree(alloc, name, &tree),
-        Err(refusal) => Err(Stop::Refused(yaml_text(alloc, name, &refusal)?)),
-    }
+    let tree = accepted(alloc, name, parse(alloc, bytes))?;
+    check_tree(alloc, name, &tree)
 }
 
 fn check_tree(alloc: Global, name: &str, tree: &Tree) -> Result<Device, Stop>

@@ -1,26 +1,25 @@
 // Reading coverage group files.
-ghost use Rattle.std.specs.Prelude.{◌≡◌, ◌≢◌, All, Option, IfOk};
+ghost use Rattle.std.specs.Prelude.{◌≡◌, All, Option, IfOk};
 ghost use Rattle.rvs_base.specs.Sink.{SinkState};
 ghost use Rattle.rvs_plan.specs.World.{World, world};
 ghost use Rattle.rvs_plan.specs.Plan.{Ends};
 ghost use Rattle.rvs_plan.specs.Meets.{Meets};
 ghost use Rattle.rvs_tree.specs.TreeView.{view};
-ghost use Rattle.rvs_cgf.specs.GroupView.{label_view, refusal_view};
+ghost use Rattle.rvs_cgf.specs.GroupView.{label_view};
 ghost use Rattle.rvs_points.specs.Valid.{IsValidIfSelected};
 ghost use Rattle.rvs_cgf.specs.Groups.{groups_of};
 ghost use Rattle.rvs_inputs.specs.Seen.{seen};
 ghost use Rattle.rvs_inputs.specs.GroupsView.{groups_view, inputs_view};
-ghost use Rattle.rvs_inputs.specs.GroupTexts.{group_text};
 ghost use Rattle.rvs_inputs.specs.GroupFiles.{joined, joins, joins_all, room, within_limit};
 ghost use Rattle.rvs_inputs.specs.GroupFiles.{checked_groups, groups_found, group_files};
 ghost use Rattle.rvs_inputs.specs.GroupFiles.{group_inputs};
 
-use crate::isa_file::{read_isa, yaml_text};
+use crate::isa_file::read_isa;
 use rvs_abstract::Families;
 use rvs_base::{Bytes, Host, Items, NoMemory, Text};
-use rvs_cgf::{CgfKind, CgfRefusal, Groups, read_groups, refusal_text};
+use rvs_cgf::{Groups, read_groups};
 use rvs_insn::IsaSpec;
-use rvs_plan::{Stop, read_part, too_long};
+use rvs_plan::{Stop, accepted, read_part, too_long};
 use rvs_yaml::{Tree, parse};
 use std::alloc::Global;
 
@@ -161,13 +160,9 @@ fn check_text(alloc: Global, isa: &IsaSpec, families: Families, text: Bytes) -> 
         (seen groups_view result) }
     ensures valid { IfOk result (All (λ l. IsValidIfSelected isa.now (label_view l))) }
 {
-    match parse(alloc, text.as_slice()) {
-        Ok(tree) => {
-            drop(text);
-            check_tree(alloc, isa, families, &tree)
-        }
-        Err(refusal) => Err(Stop::Refused(yaml_text(alloc, GROUPS_NAME, &refusal)?)),
-    }
+    let tree = accepted(alloc, GROUPS_NAME, parse(alloc, text.as_slice()))?;
+    drop(text);
+    check_tree(alloc, isa, families, &tree)
 }
 
 fn check_tree(alloc: Global, isa: &IsaSpec, families: Families, tree: &Tree) -> Result<Groups, Stop>
@@ -176,31 +171,5 @@ fn check_tree(alloc: Global, isa: &IsaSpec, families: Families, tree: &Tree) -> 
         (seen groups_view result) }
     ensures valid { IfOk result (All (λ l. IsValidIfSelected isa.now (label_view l))) }
 {
-    match read_groups(alloc, tree, isa, families) {
-        Ok(groups) => Ok(groups),
-        Err(refusal) => Err(Stop::Refused(group_text(alloc, &refusal)?)),
-    }
-}
-
-/// Why the groups are refused. There is no text where memory was wanting.
-///
-/// # Errors
-///
-/// [`NoMemory`].
-pub fn group_text(alloc: Global, refusal: &CgfRefusal) -> Result<Text, NoMemory>
-    ensures fault { IfOk result (λ _. refusal.now.kind ≢ CgfKind.NoMemory) }
-    ensures text { IfOk result (λ text. text ≡ group_text (refusal_view refusal.now)) }
-{
-    match refusal.kind {
-        CgfKind::NoMemory => Err(NoMemory),
-        _ => group_line(alloc, refusal),
-    }
-}
-
-#[tactic(auto, unfolding(crate::specs::GroupTexts::group_text))]
-fn group_line(alloc: Global, refusal: &CgfRefusal) -> Result<Text, NoMemory>
-    ensures { IfOk result (λ text. text ≡ group_text (refusal_view refusal.now)) }
-{
-    let text = refusal_text(alloc, refusal)?;
-    Ok(Text::from(format!(in alloc; "{GROUPS_NAME}: {text}")?))
+    accepted(alloc, GROUPS_NAME, read_groups(alloc, tree, isa, families))
 }

@@ -1,18 +1,16 @@
 // Reading an ISA file.
-ghost use Rattle.std.specs.Prelude.{◌≡◌, ◌≢◌, ℕ, IfOk};
 ghost use Rattle.rvs_base.specs.Sink.{SinkState};
 ghost use Rattle.rvs_plan.specs.World.{World, world};
 ghost use Rattle.rvs_plan.specs.Plan.{Ends};
 ghost use Rattle.rvs_plan.specs.Meets.{Meets};
-ghost use Rattle.rvs_yaml_text.specs.Kinds.{number_of};
 ghost use Rattle.rvs_tree.specs.TreeView.{view};
 ghost use Rattle.rvs_isa.specs.Check.{checked};
-ghost use Rattle.rvs_inputs.specs.Specification.{yaml_text, checked_end, checks, specification};
+ghost use Rattle.rvs_inputs.specs.Specification.{checked_end, checks, specification};
 
-use rvs_base::{Host, NoMemory, Text};
+use rvs_base::{Host, Text};
 use rvs_isa::{AcceptedSpec, check};
 use rvs_plan::{Stop, accepted, read_input};
-use rvs_yaml::{Tree, YamlKind, YamlRefusal, parse};
+use rvs_yaml::{Tree, parse};
 use std::alloc::Global;
 
 /// The greatest length of an ISA file in bytes.
@@ -35,10 +33,8 @@ pub fn read_isa<H: Host>(alloc: Global, host: &mut H, name: &Text) -> Result<Acc
 fn check_bytes(alloc: Global, name: &str, bytes: &[u8]) -> Result<AcceptedSpec, Stop>
     ensures { (w : World) → Meets (checks name.now bytes.now) w w result }
 {
-    match parse(alloc, bytes) {
-        Ok(tree) => check_tree(alloc, name, &tree),
-        Err(refusal) => Err(Stop::Refused(yaml_text(alloc, name, &refusal)?)),
-    }
+    let tree = accepted(alloc, name, parse(alloc, bytes))?;
+    check_tree(alloc, name, &tree)
 }
 
 fn check_tree(alloc: Global, name: &str, tree: &Tree) -> Result<AcceptedSpec, Stop>
@@ -46,28 +42,4 @@ fn check_tree(alloc: Global, name: &str, tree: &Tree) -> Result<AcceptedSpec, St
         → Meets (Ends (checked_end name.now (checked (view tree.now)))) w w result }
 {
     accepted(alloc, name, check(alloc, tree))
-}
-
-/// Why the named file has no tree. There is no text where memory was wanting.
-///
-/// # Errors
-///
-/// [`NoMemory`].
-pub fn yaml_text(alloc: Global, name: &str, refusal: &YamlRefusal) -> Result<Text, NoMemory>
-    ensures fault { IfOk result (λ _. refusal.now.kind ≢ YamlKind.NoMemory) }
-    ensures text { IfOk result
-        (λ text. text ≡ yaml_text name.now refusal.now.line refusal.now.kind) }
-{
-    match refusal.kind {
-        YamlKind::NoMemory => Err(NoMemory),
-        kind => yaml_line(alloc, name, refusal.line, kind),
-    }
-}
-
-#[tactic(auto, unfolding(crate::specs::Specification::yaml_text))]
-fn yaml_line(alloc: Global, name: &str, line: u64, kind: YamlKind) -> Result<Text, NoMemory>
-    ensures { IfOk result (λ text. text ≡ yaml_text name.now line kind) }
-{
-    let number = kind.number();
-    Ok(Text::from(format!(in alloc; "{name}: yaml {number} line {line}")?))
 }

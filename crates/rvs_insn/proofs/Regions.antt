@@ -28,14 +28,6 @@ pub some_limits : SomeLimits
 some_limits = (refl, refl, refl, refl, refl, refl)
 
 -- ---- in words
-pub text_word : (m : Memory) → HasRoom m → m.text_base % 4 ≡ 0
-text_word m r = let e = r.text_page in omega arith
 
 pub data_word : (m : Memory) → HasRoom m → m.data_base % 4 ≡ 0
 data_word m r = let e = r.data_page in omega arith
-
-pub text_limit_word : (m : Memory) → HasRoom m → text_limit m % 4 ≡ 0
-text_limit_word m r = grind arith
-
-pub data_limit_word : (m : Memory) → HasRoom m → data_limit m % 4 ≡ 0
-data_limit_word m r = grind arith

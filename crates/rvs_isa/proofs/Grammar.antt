@@ -1,5 +1,5 @@
 -- The grammar of ISA texts: a text is read as the parts that spell it.
-use Rattle.std.proofs.Common.{◌≡◌, ℕ, ◌<◌, ◌==◌, Bool, true, false, ◌&&◌, ◌||◌, if◌then◌else◌, List}
+use Rattle.std.proofs.Common.{◌≡◌, ℕ, ◌<◌, ◌==◌, Bool, true, false, ◌&&◌, if◌then◌else◌, List}
 use Rattle.std.proofs.Common.{[], ◌∷◌, ◌++◌, length, take, drop, Option, Some, None, not, get_or}
 use Rattle.std.proofs.Common.{codes, bytes_eq, refl, ap, sym, subst, ◌∙◌, arith, rules}
 use Rattle.std.specs.List.{list_any, list_all, prefix_len, take_while, join_with_byte, All}

@@ -1,9 +1,8 @@
 -- How the lines of a piece are found.
-use Rattle.std.proofs.Common.{◌≡◌, ℕ, zero, suc, ◌+◌, ◌<◌, ◌≤◌, Bool, true, false, cond, List, []}
+use Rattle.std.proofs.Common.{◌≡◌, ℕ, zero, suc, ◌+◌, ◌<◌, ◌≤◌, Bool, true, false, List, []}
 use Rattle.std.proofs.Common.{◌∷◌, ◌++◌, Option, Some, None, refl, sym, ap, subst, ◌∙◌, length}
 use Rattle.std.proofs.Common.{take, drop, get_or, arith, append_assoc, append-nil, length-append}
 use Rattle.std.proofs.Common.{length-drop, rules}
-use Rattle.std.proofs.lemmas.Bool.Decides.{nat_tests}
 use Rattle.std.specs.Prelude.{◌==◌, nat_le}
 use Rattle.rvs_text.proofs.Lists.{take-all}
 use Rattle.rvs_log.specs.Lines.{held, held_more}

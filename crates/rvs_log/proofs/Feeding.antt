@@ -1,18 +1,16 @@
 -- A file that is fed piece by piece.
 use Rattle.std.proofs.Common.{◌≡◌, ℕ, ◌+◌, ◌-◌, ◌^◌, ◌<◌, ◌≤◌, List, [], ◌++◌, length, take}
-use Rattle.std.proofs.Common.{Bool, refl, sym, ap, subst, ◌∙◌, arith}
+use Rattle.std.proofs.Common.{Bool, refl, subst, arith}
 use Rattle.std.proofs.lemmas.List.{append_assoc, append-nil, length-append, length-take-le}
 use Rattle.rvs_base.specs.Host.{HostState, ReadsOnly, Opens, Takes}
 use Rattle.rvs_log.proofs.Taking.{HasTaken, HasTaken-start, HasTaken-more, HasTaken-whole}
 use Rattle.rvs_log.proofs.Taking.{HasTaken-front, HasTaken-longer, not-above}
 use Rattle.rvs_log.specs.Grammar.{Reading}
-use Rattle.rvs_log.specs.Taken.{Taken, state_for}
+use Rattle.rvs_log.specs.Taken.{Taken}
 use Rattle.rvs_base.specs.Sink.{SinkState}
 use Rattle.rvs_log.specs.Feeds.{Fed, FeedsFile, FeedsFront, FeedCause, IsLong}
 use Rattle.rvs_log.specs.Progress.{Loses}
 use Rattle.rvs_log.specs.declared.fault.LogFault.{LogFault}
-use Rattle.rvs_log.specs.declared.fault.LogFault.TheVariants.{NoFile, Failed, TooLong, NoMemory}
-use Rattle.rvs_log.specs.declared.fault.LogFault.TheVariants.{Untold}
 
 pub Fed-none : {T : Type 0} {step : T → Reading → T} (c : Taken T) → Fed step c c []
 Fed-none c = grind (arith, append-nil)

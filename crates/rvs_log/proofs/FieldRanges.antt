@@ -1,20 +1,14 @@
 -- What a word spells is an instruction with fields in range.
-use Rattle.std.proofs.Common.{◌≡◌, ℕ, ◌%◌, ◌^◌, ◌-◌, ◌<◌, ◌≤◌, Bool, true}
-use Rattle.std.proofs.Common.{false, cond, Option, Some, None, refl, subst, arith}
-use Rattle.std.proofs.Common.{sym}
-use Rattle.std.specs.Prelude.{pos, negsuc, ◌-ℤ◌, nat_lt}
+use Rattle.std.proofs.Common.{◌≡◌, ℕ, ◌^◌, ◌-◌, ◌<◌}
+use Rattle.std.proofs.Common.{Option, Some, arith}
+use Rattle.std.specs.Prelude.{pos, negsuc, ◌-ℤ◌}
 use Rattle.std.proofs.lemmas.Int.{ints}
-use Rattle.std.proofs.lemmas.Bool.Decides.{nat_tests}
 use Rattle.std.specs.Option.{option_map}
 use Rattle.rvs_insn.specs.declared.op.Op.{Op}
-use Rattle.rvs_insn.specs.declared.op.Format.{Format}
-use Rattle.rvs_insn.specs.declared.op.Format.TheVariants.{R, I, Shift, Load as LoadForm, JumpReg}
-use Rattle.rvs_insn.specs.declared.op.Format.TheVariants.{Store as StoreForm, Branch, Upper, Jump}
-use Rattle.rvs_insn.specs.declared.op.Format.TheVariants.{Fence, System, Amo, LoadReserved}
-use Rattle.rvs_insn.specs.Table.{row, op_of_word}
-use Rattle.rvs_insn.specs.Fields.{Fields, IsRegister, signed, rd_of, rs1_of, rs2_of, imm_of, imm_i}
-use Rattle.rvs_insn.specs.Fields.{imm_s, imm_b, imm_j, fields_at, insn_of_word}
-use Rattle.rvs_insn.specs.Word.{FitsBits, FitsEven, AreOf, IsEncodable}
+use Rattle.rvs_insn.specs.Table.{op_of_word}
+use Rattle.rvs_insn.specs.Fields.{Fields, IsRegister, signed}
+use Rattle.rvs_insn.specs.Fields.{fields_at, insn_of_word}
+use Rattle.rvs_insn.specs.Word.{FitsBits, IsEncodable}
 
 -- ---- what a word spells is an instruction with fields in range
 pub below_zero : (n m : ℕ) → n < m → pos n -ℤ pos m ≡ negsuc (m - n - 1)

@@ -1,18 +1,18 @@
 -- The log of a run has the run as its entries.
-use Rattle.std.proofs.Common.{◌≡◌, ℕ, suc, ◌+◌, ◌/◌, ◌%◌, ◌^◌, ◌<◌, ◌≤◌, Bool, true, false, cond}
+use Rattle.std.proofs.Common.{◌≡◌, ℕ, suc, ◌+◌, ◌<◌, ◌≤◌, Bool, true, false}
 use Rattle.std.proofs.Common.{not, ◌&&◌, List, [], ◌∷◌, ◌++◌, Option, Some, None, refl, sym, ap}
 use Rattle.std.proofs.Common.{◌∙◌, length, arith, append_assoc, append-nil, length-append, rules}
 use Rattle.std.proofs.lemmas.Bool.Decides.{nat_tests}
 use Rattle.std.proofs.lemmas.Bool.{and_from}
-use Rattle.std.specs.Prelude.{◌==◌, nat_lt, nat_le, map, codes, All}
+use Rattle.std.specs.Prelude.{◌==◌, map, codes, All}
 use Rattle.rvs_base.specs.Lines.{without_return}
 use Rattle.rvs_base.specs.Number.{hex_digit_of, hex_digit_at, hex_word_of}
 use Rattle.rvs_machine.specs.Written.{Write}
 use Rattle.rvs_machine.specs.declared.event.Executed.{Executed}
-use Rattle.rvs_log.specs.Grammar.{Says, Nothing, reading_of}
-use Rattle.rvs_log.specs.Lines.{whole_from, tail_from, whole_lines, tail_of, last_line, line_says}
-use Rattle.rvs_machine.specs.Traces.{word_of, rs2_of_word, ReadsAt, Follows}
-use Rattle.rvs_log.specs.Entries.{Heard, unheard, hear, entry_at, entry_in, entries_in}
+use Rattle.rvs_log.specs.Grammar.{Says}
+use Rattle.rvs_log.specs.Lines.{whole_from, tail_from, tail_of, line_says}
+use Rattle.rvs_machine.specs.Traces.{ReadsAt, Follows}
+use Rattle.rvs_log.specs.Entries.{Heard, hear, entry_at, entry_in, entries_in}
 use Rattle.rvs_log.specs.Written.{padded, commit_text, line_of, IsSmall, HasWords}
 use Rattle.rvs_log.specs.Logs.{log_of, as_entry, LogsReadBack, LinesDiffer}
 use Rattle.rvs_log.proofs.Ascii.{hex_length, padded_one, padded_two}

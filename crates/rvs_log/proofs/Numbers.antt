@@ -1,10 +1,10 @@
 -- The number of a register reads back.
-use Rattle.std.proofs.Common.{◌≡◌, ℕ, ◌+◌, ◌-◌, ◌*◌, ◌/◌, ◌%◌, ◌<◌, ◌≤◌, true, false, cond}
-use Rattle.std.proofs.Common.{List, [], ◌∷◌, Some, None, sym, ap, ◌∙◌, arith}
+use Rattle.std.proofs.Common.{◌≡◌, ℕ, ◌+◌, ◌*◌, ◌%◌, ◌<◌, ◌≤◌, true, false}
+use Rattle.std.proofs.Common.{List, [], ◌∷◌, Some, arith}
 use Rattle.std.proofs.lemmas.Bool.Decides.{nat_tests}
-use Rattle.std.specs.Prelude.{◌==◌, ◌&&◌, nat_lt, nat_le}
+use Rattle.std.specs.Prelude.{◌==◌}
 use Rattle.rvs_text.specs.Bytes.{is_digit}
-use Rattle.rvs_log.specs.Grammar.{after_spaces, register_at, two_digits}
+use Rattle.rvs_log.specs.Grammar.{after_spaces, register_at}
 use Rattle.rvs_log.specs.Written.{padded}
 use Rattle.rvs_log.proofs.Ascii.{padded_one, padded_two}
 

@@ -1,10 +1,9 @@
 -- The lines of a log that comes in pieces.
 use Rattle.std.proofs.Common.{◌≡◌, ℕ, zero, suc, ◌+◌, ◌≤◌, Bool, true, false, cond, List, [], ◌∷◌}
-use Rattle.std.proofs.Common.{◌++◌, Option, Some, None, refl, sym, ap, ◌∙◌, length, take, drop}
+use Rattle.std.proofs.Common.{◌++◌, Option, Some, None, refl, sym, ap, length, take, drop}
 use Rattle.std.proofs.Common.{arith, append_assoc, append-nil, length-append, rules}
 use Rattle.std.proofs.lemmas.Bool.Decides.{nat_tests}
 use Rattle.std.specs.Prelude.{◌==◌, nat_le}
-use Rattle.rvs_base.specs.Lines.{without_return}
 use Rattle.rvs_log.specs.Grammar.{Reading, Nothing, reading_of, after_core}
 use Rattle.rvs_log.specs.Grammar.{after_brackets, write_line}
 use Rattle.rvs_log.specs.Cutting.{held_after, last_of, lines_after, lines_held}

@@ -1,5 +1,5 @@
 -- What a line says, by the byte that it begins with.
-use Rattle.std.proofs.Common.{◌≡◌, ℕ, ◌≤◌, false, List, [], ◌∷◌, Option, Some, None, refl, sym, ap}
+use Rattle.std.proofs.Common.{◌≡◌, ℕ, ◌≤◌, false, List, [], ◌∷◌, Option, None, refl, sym, ap}
 use Rattle.std.proofs.Common.{◌∙◌, ◌<◌, arith, get_or, length, subst}
 use Rattle.std.specs.Prelude.{◌==◌}
 use Rattle.std.specs.Option.{option_or}

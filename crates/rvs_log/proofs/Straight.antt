@@ -1,10 +1,10 @@
 -- Lines as they are mostly written.
 use Rattle.std.proofs.Common.{◌≡◌, ℕ, ◌+◌, ◌*◌, ◌/◌, ◌%◌, ◌^◌, ◌<◌, ◌≤◌, Bool, true, false}
-use Rattle.std.proofs.Common.{cond, List}
+use Rattle.std.proofs.Common.{List}
 use Rattle.std.proofs.Common.{[], ◌∷◌, ◌++◌}
 use Rattle.std.proofs.Common.{Some, None, refl, sym, ap, ◌∙◌, subst, arith, length}
 use Rattle.std.proofs.lemmas.Bool.Decides.{nat_tests}
-use Rattle.std.specs.Prelude.{◌==◌, codes, nat_lt}
+use Rattle.std.specs.Prelude.{codes, nat_lt}
 use Rattle.rvs_machine.specs.Written.{Write}
 use Rattle.rvs_text.specs.Bytes.{is_digit}
 use Rattle.rvs_log.specs.Grammar.{after_brackets, after_byte, after_core, after_some}

@@ -5,10 +5,9 @@ use Rattle.std.proofs.Common.{append_assoc, append-nil, length-append, rules}
 use Rattle.std.proofs.Math.Seq.{take-length}
 use Rattle.std.proofs.lemmas.List.{map-append}
 use Rattle.std.specs.Prelude.{◌==◌, map}
-use Rattle.rvs_base.specs.Lines.{without_return}
 use Rattle.rvs_log.specs.Grammar.{Reading, Nothing, reading_of}
 use Rattle.rvs_log.specs.Cutting.{held_after, last_of, lines_after, lines_held}
-use Rattle.rvs_log.specs.Lines.{whole_lines, tail_of, lines_of, last_line, line_says, held}
+use Rattle.rvs_log.specs.Lines.{whole_lines, tail_of, lines_of, line_says, held}
 use Rattle.rvs_log.specs.Lines.{held_more, held_says}
 use Rattle.rvs_log.specs.Taken.{IsTold, Taken, ended, ended_by, state_for, taken, waiting_len}
 use Rattle.rvs_log.specs.Taken.{with_end}

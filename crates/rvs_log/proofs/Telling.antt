@@ -1,10 +1,10 @@
 -- Lines that tell how far a file has been read: put one after the other, and fronts of them.
 use Rattle.std.proofs.Common.{◌≡◌, ◌≤◌, ◌<◌, ◌+◌, ◌/◌, ◌&&◌, ℕ, zero, suc, Bool, true, false}
-use Rattle.std.proofs.Common.{cond, List, [], ◌++◌, length, Option, Some, None, nat_lt, nat_le}
+use Rattle.std.proofs.Common.{cond, List, [], ◌++◌, length, Option, Some, nat_lt, nat_le}
 use Rattle.std.proofs.Common.{Result, Err}
 use Rattle.std.proofs.Common.{IfErr, refl, sym, ap, ◌∙◌, subst, arith, append-nil, rules}
 use Rattle.std.specs.Prelude.{IsTrue}
-use Rattle.std.proofs.lemmas.Bool.{ltb-true, ltb-false, leb-true, leb-false}
+use Rattle.std.proofs.lemmas.Bool.{leb-true, leb-false}
 use Rattle.std.proofs.lemmas.List.{append_assoc, length-append}
 use Rattle.rvs_base.specs.Host.{HostState, Files, Tells}
 use Rattle.rvs_base.specs.Sink.{SinkState, appended}

@@ -1,8 +1,7 @@
 -- What is read is a byte or a word, and so is what is written.
-use Rattle.std.proofs.Common.{ℕ, zero, suc, ◌+◌, ◌*◌, ◌/◌, ◌%◌, ◌^◌, ◌-◌, ◌<◌, Bool, true}
-use Rattle.std.proofs.Common.{false, cond, List, Option, Some, None, arith}
-use Rattle.std.proofs.Common.{length, rules}
-use Rattle.std.specs.Prelude.{◌&&◌, nat_le, nat_lt, slice_index}
+use Rattle.std.proofs.Common.{ℕ, zero, suc, ◌+◌, ◌*◌, ◌/◌, ◌%◌, ◌^◌, ◌<◌, Bool}
+use Rattle.std.proofs.Common.{cond, List, Option, Some, None, arith}
+use Rattle.std.proofs.Common.{rules}
 use Rattle.std.specs.Prelude.{slice_set}
 use Rattle.rvs_insn.specs.Fields.{IsRegister}
 use Rattle.rvs_insn.specs.Memory.{Memory}
@@ -84,6 +83,3 @@ commit_low rd value g h = grind arith
 pub some_low : (rd : Option ℕ) (v : ℕ) → v < 2 ^ 32 → IsRegister rd
     → IsSmall (commit_of rd (Some v))
 some_low rd v g h = grind arith
-
-pub none_low : (rd : Option ℕ) → IsSmall (commit_of rd None)
-none_low rd = grind arith

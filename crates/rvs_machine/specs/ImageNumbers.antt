@@ -12,4 +12,5 @@ image_number TooLarge = 3
 -- the number of the kind, and the line
 abbrev pub refusal_text : ImageRefusal → List ℕ
 refusal_text refusal =
-    codes "image " ++ (decimal (image_number refusal.kind) ++ (codes " line " ++ decimal refusal.line))
+    codes "image "
+    ++ (decimal (image_number refusal.kind) ++ (codes " line " ++ decimal refusal.line))

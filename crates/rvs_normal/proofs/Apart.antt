@@ -1,6 +1,6 @@
 -- Keys and names that differ.
-use Rattle.std.proofs.Common.{◌≡◌, ℕ, true, false, List, [], ◌∷◌, ◌++◌, refl, sym}
-use Rattle.std.proofs.Common.{subst, arith, rules}
+use Rattle.std.proofs.Common.{◌≡◌, ℕ, true, false, List, [], ◌∷◌, ◌++◌, refl}
+use Rattle.std.proofs.Common.{arith, rules}
 use Rattle.std.proofs.lemmas.Bool.{or_parts}
 use Rattle.std.specs.Prelude.{not, map, bytes_eq}
 use Rattle.std.specs.List.{list_any}
@@ -16,9 +16,9 @@ use Rattle.rvs_cgf.specs.declared.groups.Role.TheVariants as role
 use Rattle.rvs_points.specs.Kinds.{kind_name}
 use Rattle.rvs_cgf.specs.Spelled.{Block, joined, blocks, kinds_are_apart}
 use Rattle.rvs_points.specs.Valid.{are_distinct}
-use Rattle.rvs_points.proofs.SameKinds.{same-self, kind-is}
+use Rattle.rvs_points.proofs.SameKinds.{same-self}
 use Rattle.rvs_normal.specs.Again.{names_are_apart}
-use Rattle.rvs_normal.proofs.Truths.{and-false, or-last, not-true}
+use Rattle.rvs_normal.proofs.Truths.{or-last, not-true}
 use Rattle.rvs_normal.proofs.Placed.{keys}
 use Rattle.rvs_normal.proofs.Blocks.{AreFree}
 

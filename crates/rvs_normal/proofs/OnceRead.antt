@@ -12,7 +12,7 @@ use Rattle.rvs_yaml_text.specs.Word.{opening, closing, comma, colon, scalar_toke
 use Rattle.rvs_yaml_text.specs.Word.{cut_key, colon_scalar, alias_token, late_colon, fault, Bracket}
 use Rattle.rvs_yaml_text.specs.declared.kind.YamlKind.{YamlKind}
 use Rattle.rvs_yaml.specs.Anchors.{Anchors, lookup, known_alias}
-use Rattle.rvs_yaml.specs.Checks.{Checked, ◌>>=◌, ◌>>◌, check}
+use Rattle.rvs_yaml.specs.Checks.{◌>>=◌, ◌>>◌, Checked}
 use Rattle.rvs_yaml.specs.Entry.{written}
 use Rattle.rvs_yaml.specs.Flow.{Nest, none, one, group, FlowState}
 use Rattle.rvs_yaml.specs.Flow.{member}

@@ -5,11 +5,11 @@ use Rattle.std.proofs.Common.{◌∙◌, append_assoc, append-nil, Option, Some,
 use Rattle.std.specs.Prelude.{if◌then◌else◌, map, filter, codes}
 use Rattle.rvs_yaml_text.specs.Word.{Word}
 use Rattle.rvs_yaml_text.specs.Text.{line_words}
-use Rattle.rvs_cgf.specs.Groups.{Point, Skipped, Label, same_kind}
+use Rattle.rvs_cgf.specs.Groups.{Point, Skipped, Label}
 use Rattle.rvs_points.specs.declared.group.Kind.{Kind}
 use Rattle.rvs_points.specs.Kinds.{kind_name}
 use Rattle.rvs_cgf.specs.Print.{goes_on}
-use Rattle.rvs_cgf.specs.Spelled.{Block, joined, blocks, selected}
+use Rattle.rvs_cgf.specs.Spelled.{Block, blocks, selected}
 use Rattle.rvs_normal.proofs.Lines.{inked-utf8}
 use Rattle.rvs_normal.proofs.Rows.{Row, label_row, node_row, point_row, note_row, inner_note_row}
 use Rattle.rvs_normal.proofs.Rows.{IsRow, row_words}

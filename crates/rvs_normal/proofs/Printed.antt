@@ -5,7 +5,6 @@ use Rattle.std.specs.Prelude.{if◌then◌else◌, map, codes}
 use Rattle.std.specs.List.{flat_map}
 use Rattle.rvs_yaml_text.specs.Bytes.{feed_byte}
 use Rattle.rvs_yaml_text.specs.Printed as yaml
-use Rattle.rvs_yaml_text.specs.Printed.{in_quotes}
 use Rattle.rvs_cgf.specs.Groups.{Point, Skipped, Label}
 use Rattle.rvs_points.specs.declared.group.Kind.{Kind}
 use Rattle.rvs_points.specs.Kinds.{kind_name}

@@ -1,6 +1,6 @@
 -- Maps without merges: their pairs, how many nodes count for them, and how deep they are.
 use Rattle.std.proofs.Common.{◌≡◌, ℕ, suc, ◌+◌, ◌≤◌, min, false, List, [], ◌∷◌, ◌++◌, refl}
-use Rattle.std.proofs.Common.{sym, ap, ◌∙◌, arith, append_assoc, append-nil}
+use Rattle.std.proofs.Common.{sym, ◌∙◌, arith, append_assoc, append-nil}
 use Rattle.std.specs.Prelude.{map}
 use Rattle.rvs_tree.proofs.Views.{pairs_of-entries_of}
 use Rattle.rvs_tree.specs.Data.{entries_of, pairs_of, own_pairs, Pairs, depth, entries_depth}

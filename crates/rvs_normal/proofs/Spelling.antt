@@ -1,18 +1,16 @@
 -- The normal text of groups is read as a tree that spells them.
 use Rattle.std.proofs.Common.{◌≡◌, ℕ, ◌+◌, ◌*◌, ◌≤◌, Bool, true, false, List, [], ◌∷◌, ◌++◌, length}
 use Rattle.std.proofs.Common.{refl, sym, ap, subst, ◌∙◌, arith, Ok, None, Some, Option}
-use Rattle.std.specs.Prelude.{◌&&◌, ◌||◌, map, codes}
+use Rattle.std.specs.Prelude.{◌&&◌, map, codes}
 use Rattle.std.specs.List.{list_all}
 use mathlib.Core.Bool.{cond}
 use Rattle.std.proofs.lemmas.Bool.Decides.{nat_tests}
-use Rattle.std.proofs.lemmas.Bool.{and_from}
 use Rattle.rvs_yaml.proofs.WholeLines.{both_true}
 use Rattle.rvs_tree.specs.Data.{Data, own_pairs, is_map, is_scalar}
 use Rattle.rvs_tree.specs.Value.{Value, Written}
 use Rattle.rvs_yaml_text.specs.Scalar.{key_name}
 use Rattle.rvs_yaml.specs.Parsed.{answer}
-use Rattle.rvs_abstract.specs.Calls.{is_letter, is_digit}
-use Rattle.rvs_points.specs.Keys.{is_name_byte, is_label_name, is_printable}
+use Rattle.rvs_points.specs.Keys.{is_label_name, is_printable}
 use Rattle.rvs_cgf.specs.Groups.{Point, Skipped, Label, is_empty_scalar}
 use Rattle.rvs_points.specs.declared.group.Kind.{Kind}
 use Rattle.rvs_points.specs.Kinds.{kind_name}
@@ -22,7 +20,7 @@ use Rattle.rvs_cgf.specs.Spelled.{SpellsNodes, SpellsLabels, SpellsAll, Spells}
 use Rattle.rvs_points.specs.Valid.{are_distinct}
 use Rattle.rvs_normal.specs.Again.{names_are_apart, notes_are_printable, KeepsLimit}
 use Rattle.rvs_normal.proofs.Lines.{inked-append}
-use Rattle.rvs_normal.proofs.Rows.{is_first, is_next, is_plain, Row, point_row}
+use Rattle.rvs_normal.proofs.Rows.{is_plain, Row, point_row}
 use Rattle.rvs_normal.proofs.Columns.{parts_cols}
 use Rattle.rvs_normal.proofs.Blocks.{SaysTexts, SaysParts}
 use Rattle.rvs_normal.proofs.Sizes.{pairs, own-pairs}

@@ -1,8 +1,7 @@
 -- Tests joined by `and`, `or` and `not`.
 use Rattle.std.proofs.Common.{◌≡◌, Bool, true, false, refl, arith}
-use Rattle.std.proofs.lemmas.Bool.{and_from, or_parts, or_from, not_from_false}
+use Rattle.std.proofs.lemmas.Bool.{or_from}
 use Rattle.std.specs.Prelude.{◌&&◌, ◌||◌, not}
-use Rattle.rvs_yaml.proofs.WholeLines.{both_true}
 
 -- ---- and
 

@@ -1,12 +1,12 @@
 -- A text that stands in a page is read back.
-use Rattle.std.proofs.Common.{◌≡◌, ◌≤◌, ◌<◌, ℕ, ◌+◌, ◌*◌, ◌/◌, ◌%◌, ◌-◌, Bool, true, false, cond}
-use Rattle.std.proofs.Common.{List, [], ◌∷◌, ◌++◌, length, Some, None, refl}
+use Rattle.std.proofs.Common.{◌≡◌, ◌<◌, ℕ, ◌+◌, ◌*◌, ◌/◌, ◌%◌, ◌-◌, Bool, true, false, cond}
+use Rattle.std.proofs.Common.{List, [], ◌∷◌, ◌++◌, None, refl}
 use Rattle.std.proofs.Common.{arith, codes, rules}
 use Rattle.std.proofs.lemmas.Bool.Decides.{nat_tests}
 use Rattle.std.proofs.lemmas.List.Elements.{All-tail}
-use Rattle.std.specs.Prelude.{◌==◌, ◌||◌, nat_lt}
+use Rattle.std.specs.Prelude.{◌==◌, ◌||◌}
 use Rattle.std.specs.List.{list_any}
-use Rattle.rvs_page.specs.Escape.{control, plain, named, read_from}
+use Rattle.rvs_page.specs.Escape.{plain, read_from}
 use Rattle.rvs_page.specs.Laws.{TextsAreReadBack, is_special, TextsHoldNoMarks}
 use Rattle.rvs_page.specs.Laws.{TextsKeepTheirSize}
 

@@ -1,5 +1,5 @@
 -- The lines that `compare` puts.
-use Rattle.std.specs.Prelude.{ℕ, List, [], ◌++◌, codes, decimal}
+use Rattle.std.specs.Prelude.{ℕ, List, ◌++◌, codes, decimal}
 use Rattle.rvs_base.specs.Number.{hex_word_of}
 use Rattle.rvs_sig.specs.declared.comparison.Verdict.{Verdict}
 use Rattle.rvs_sig.specs.declared.comparison.Verdict.TheVariants.{Same, Differs, Lengths}

@@ -14,9 +14,9 @@ ghost use Rattle.rvs_plain.specs.Normalize.{normal_files, normal_inputs, normali
 use rvs_abstract::Families;
 use rvs_base::{Bytes, Host, Items, Sink, Text};
 use rvs_cgf::write_groups;
-use rvs_inputs::{GROUPS_NAME, group_text, print_text, read_isa, read_joined, yaml_text};
+use rvs_inputs::{GROUPS_NAME, print_text, read_isa, read_joined};
 use rvs_insn::IsaSpec;
-use rvs_plan::{Finish, Stop};
+use rvs_plan::{Finish, Stop, accepted};
 use rvs_words::NormalizeArguments;
 use rvs_yaml::{Tree, parse};
 use std::alloc::Global;
@@ -73,13 +73,9 @@ fn write_text(alloc: Global, isa: &IsaSpec, families: Families, text: Bytes) -> 
     ensures { (w : World) → Meets (Ends (seen normal_text (groups_found isa.now families text)))
         w w result }
 {
-    match parse(alloc, text.as_slice()) {
-        Ok(tree) => {
-            drop(text);
-            write_tree(alloc, isa, families, &tree)
-        }
-        Err(refusal) => Err(Stop::Refused(yaml_text(alloc, GROUPS_NAME, &refusal)?)),
-    }
+    let tree = accepted(alloc, GROUPS_NAME, parse(alloc, text.as_slice()))?;
+    drop(text);
+    write_tree(alloc, isa, families, &tree)
 }
 
 fn write_tree(alloc: Global, isa: &IsaSpec, families: Families, tree: &Tree) -> Result<Text, Stop>
@@ -87,8 +83,5 @@ fn write_tree(alloc: Global, isa: &IsaSpec, families: Families, tree: &Tree) -> 
         (Ends (seen normal_text (checked_groups (groups_of isa.now families (view tree.now)))))
         w w result }
 {
-    match write_groups(alloc, tree, isa, families) {
-        Ok(text) => Ok(text),
-        Err(refusal) => Err(Stop::Refused(group_text(alloc, &refusal)?)),
-    }
+    accepted(alloc, GROUPS_NAME, write_groups(alloc, tree, isa, families))
 }

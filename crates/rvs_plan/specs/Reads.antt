@@ -1,5 +1,5 @@
 -- What is read on a way through a plan.
-use Rattle.std.specs.Prelude.{◌≡◌, ℕ, List, [], ◌∷◌, Result, Ok, Err}
+use Rattle.std.specs.Prelude.{◌≡◌, List, [], ◌∷◌, Result, Ok, Err}
 use Rattle.rvs_base.specs.Host.{Files, HostState, Tells, IsUnread}
 use Rattle.rvs_base.specs.File.{ReadsAtMost}
 use Rattle.rvs_plan.specs.World.{World, contents}

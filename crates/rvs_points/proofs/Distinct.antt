@@ -1,7 +1,7 @@
 -- Points of which no two have one kind and key.
 use Rattle.std.proofs.Common.{◌≡◌, ℕ, Bool, true, false, not, ◌&&◌, List, [], ◌∷◌, ◌++◌, refl, sym}
 use Rattle.std.proofs.Common.{ap, ◌∙◌, bytes_eq}
-use Rattle.std.proofs.lemmas.Bool.{and_from, and_left, and_right, or_from}
+use Rattle.std.proofs.lemmas.Bool.{and_from, and_left, or_from}
 use Rattle.std.specs.Prelude.{◌||◌, if◌then◌else◌}
 use Rattle.std.specs.List.{list_all}
 use Rattle.std.proofs.lemmas.Cmp.{nat_list_eq_equiv}

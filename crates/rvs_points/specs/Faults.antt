@@ -6,7 +6,7 @@ use Rattle.rvs_points.specs.declared.refusal.CgfKind.TheVariants.{UnknownNode, U
 use Rattle.rvs_points.specs.declared.refusal.CgfKind.TheVariants.{BadRegister, BadExpr}
 use Rattle.rvs_points.specs.declared.refusal.CgfKind.TheVariants.{BadAbstract, BadCross, BadConfig}
 use Rattle.rvs_points.specs.declared.refusal.CgfKind.TheVariants.{TooManyLabels, TooManyPoints}
-use Rattle.rvs_points.specs.declared.refusal.CgfKind.TheVariants.{NoRoom, NoMemory}
+use Rattle.rvs_points.specs.declared.refusal.CgfKind.TheVariants.{NoRoom}
 
 -- the number of the rule, in the order of docs/FORMATS.md
 abbrev pub number_of : CgfKind → ℕ
@@ -22,4 +22,3 @@ number_of BadConfig = 9
 number_of TooManyLabels = 10
 number_of TooManyPoints = 11
 number_of NoRoom = 12
-number_of NoMemory = 13

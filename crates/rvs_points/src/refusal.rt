@@ -34,12 +34,10 @@ pub enum CgfKind {
     /// The memory of the core has no room for the test of a label. Reading groups never finds it:
     /// who makes their tests does.
     NoRoom,
-    /// The allocator refused.
-    NoMemory,
 }
 
 impl CgfKind {
-    /// The number under which a fault line names the kind: 1 to 13, in the order above.
+    /// The number under which a fault line names the kind: 1 to 12, in the order above.
     pub fn number(&self) -> u8
         ensures { result ≡ number_of self.now }
     {
@@ -56,7 +54,6 @@ impl CgfKind {
             CgfKind::TooManyLabels => 10,
             CgfKind::TooManyPoints => 11,
             CgfKind::NoRoom => 12,
-            CgfKind::NoMemory => 13,
         }
     }
 }

@@ -5,7 +5,7 @@ use Rattle.std.specs.List.{flat_map}
 use Rattle.std.specs.Fmt.{decimal}
 use Rattle.rvs_points.specs.Points.{Label, Meaning, Point, window}
 use Rattle.rvs_points.specs.Kinds.{kind_name}
-use Rattle.rvs_count.specs.Report.{hit_count, skipped_line, width}
+use Rattle.rvs_count.specs.Report.{hit_count, skipped_line, unselected_line, width}
 
 -- a point is measured, unless it is a cross point
 abbrev pub is_measured : Meaning → Bool
@@ -54,7 +54,7 @@ abbrev pub label_text : List ℕ → List ℕ → Label → List ℕ
 label_text reached hits l =
     if l.selected then reached_line l.name reached (measured l.points)
     ++ (points_text reached hits l.points ++ flat_map skipped_line l.skipped)
-    else codes "label " ++ (l.name ++ codes " unselected\n")
+    else unselected_line l.name
 
 abbrev pub labels_text : List ℕ → List ℕ → List Label → List ℕ
 labels_text reached hits [] = []

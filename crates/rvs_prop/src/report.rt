@@ -6,7 +6,7 @@ ghost use Rattle.rvs_count.specs.Report as count;
 ghost use Rattle.rvs_prop.specs.Report as spec;
 
 use rvs_base::{NoMemory, Text};
-use rvs_count::{hit_count, push_skipped, width};
+use rvs_count::{hit_count, push_skipped, push_unselected, width};
 use rvs_points::{Groups, Label, Meaning, Point};
 use std::alloc::Global;
 
@@ -146,11 +146,10 @@ fn push_label(
         ≡ text.old ++ spec.label_text reached.now hits.now (label_view label.now)) }
 {
     if label.selected {
-        return push_selected(alloc, text, reached, hits, label);
+        push_selected(alloc, text, reached, hits, label)
+    } else {
+        push_unselected(alloc, text, label)
     }
-    let name = label.name.as_str();
-    let line = format!(in alloc; "label {name} unselected\n")?;
-    text.push_str(line.as_str())
 }
 
 /// How many points of a label are measured, where it is selected.

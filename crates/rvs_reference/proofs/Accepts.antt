@@ -22,7 +22,7 @@ use Rattle.rvs_elf.specs.Executable.{image_of_elf}
 use Rattle.rvs_elf.specs.Numbers.{refusal_text as elf_text}
 use Rattle.rvs_elf.specs.declared.refusal.ElfRefusal.{ElfRefusal}
 use Rattle.rvs_inputs.proofs.Accepting.{Meets-refused}
-use Rattle.rvs_reference.specs.TestRun.{accepted, named, Accepts, is_image_name}
+use Rattle.rvs_reference.specs.TestRun.{accepted, input_found, Accepts, is_image_name}
 use Rattle.rvs_reference.specs.TestRun.{is_executable_name, image_found}
 
 pub Meets-accepts : {A : Type 0} (found : Result A (List ℕ)) (result : Result A Stop) (w : World)
@@ -43,7 +43,7 @@ Meets-accepts found (Err SinkFault) w e = absurd e
 -- what comes of an input
 pub Accepts-stops : {A R : Type 0} (said : R → List ℕ) (name : List ℕ) (found : Result A R)
     (answer : Result A (Fault R)) (result : Result A Stop) → Answers answer found
-    → Stops said name answer result → Accepts (named said name found) result
+    → Stops said name answer result → Accepts (input_found said name found) result
 Accepts-stops said name found (Ok a) result is stops = rw (is, stops) refl
 Accepts-stops said name found (Err (fault.Refused r)) result is (inl none) = rw none tt
 Accepts-stops said name found (Err (fault.Refused r)) result is (inr told) =

@@ -68,18 +68,18 @@ abbrev pub NamesText : List ℕ → Type 0
 NamesText name = (is_image_name name ≡ false) × (is_executable_name name ≡ false)
 
 -- what comes of the named input, or the line that says why it is refused
-abbrev pub named : {A R : Type 0} → (R → List ℕ) → List ℕ → Result A R → Result A (List ℕ)
-named said name (Ok a) = Ok a
-named said name (Err refusal) = Err (input_text name (said refusal))
+abbrev pub input_found : {A R : Type 0} → (R → List ℕ) → List ℕ → Result A R → Result A (List ℕ)
+input_found said name (Ok a) = Ok a
+input_found said name (Err refusal) = Err (input_text name (said refusal))
 
 abbrev pub file_found : List ℕ → Result ImageValue ImageRefusal → Result ImageValue (List ℕ)
-file_found name found = named image_text name found
+file_found name found = input_found image_text name found
 
 abbrev pub executable_found : List ℕ → Result ImageValue ElfRefusal → Result ImageValue (List ℕ)
-executable_found name found = named elf_text name found
+executable_found name found = input_found elf_text name found
 
 abbrev pub text_found : List ℕ → Result ImageValue AsmRefusal → Result ImageValue (List ℕ)
-text_found name found = named asm_text name found
+text_found name found = input_found asm_text name found
 
 -- the image of a test file, which is an image file, an executable or assembler text
 abbrev pub image_found : Isa → List ℕ → List ℕ → Result ImageValue (List ℕ)

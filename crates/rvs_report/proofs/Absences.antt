@@ -1,13 +1,13 @@
 -- What was read, where it is an answer that a file isn't there.
-use Rattle.std.proofs.Common.{◌≡◌, ◌≤◌, ◌<◌, ◌+◌, ◌&&◌, ℕ, zero, suc, Bool, true, false, is_some}
+use Rattle.std.proofs.Common.{◌≡◌, ◌<◌, ◌+◌, ◌&&◌, ℕ, zero, suc, Bool, true, false, is_some}
 use Rattle.std.proofs.Common.{List, [], ◌∷◌, length, Option, Some, None, Ok}
 use Rattle.std.proofs.Common.{refl, sym, ap, ◌∙◌, arith}
 use Rattle.rvs_base.specs.Host.{Files, HostState, Tells, ReadsOnly, LacksFile, is_told}
 use Rattle.rvs_base.specs.File.{IsWhole, IsTooLong, ReadsAtMost}
 use Rattle.rvs_base.specs.Sink.{SinkState}
-use Rattle.rvs_plan.specs.World.{world, contents, IsAnswer, Later}
+use Rattle.rvs_plan.specs.World.{world, IsAnswer, Later}
 use Rattle.rvs_plan.specs.Effect.{Read}
-use Rattle.rvs_plan.specs.Plan.{Plan, Asks, gives}
+use Rattle.rvs_plan.specs.Plan.{Asks, gives}
 use Rattle.rvs_plan.specs.Meets.{MeetsWith}
 use Rattle.rvs_plan.proofs.Amounts.{ReadsThrough-ask}
 use Rattle.rvs_plan.proofs.Sequence.{LaterSink-start, told-Tells, is_told-Tells}

@@ -1,2 +1,1 @@
 mod Absences
-mod Shows

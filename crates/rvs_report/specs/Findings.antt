@@ -18,7 +18,7 @@ use Rattle.rvs_generate.specs.Tests.{reference_words}
 use Rattle.rvs_generate.specs.TestFiles.{files_of}
 use Rattle.rvs_report.specs.declared.reviewing.Likeness.{Likeness}
 use Rattle.rvs_report.specs.declared.reviewing.Likeness.TheVariants.{Absent, Other, Same}
-use Rattle.rvs_report.specs.declared.reviewing.Found.{Found}
+use Rattle.rvs_showing.specs.declared.found.Found.{Found}
 use Rattle.rvs_generate.specs.declared.gathering.Test.{Test}
 use Rattle.rvs_generate.specs.declared.test_files.TestFiles.{TestFiles}
 

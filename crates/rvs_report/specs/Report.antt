@@ -30,7 +30,7 @@ use Rattle.rvs_coverage.specs.LogReport.{takes_logs, logs_in}
 use Rattle.rvs_coverage.specs.Coverage.{uncounted, counts_more, file_name}
 use Rattle.rvs_coverage.specs.Summing.{total_of}
 use Rattle.rvs_report.specs.Findings.{found_open, finds_test, finding_in}
-use Rattle.rvs_report.specs.Showing.{shown_label, shown_unselected}
+use Rattle.rvs_showing.specs.Showing.{shown_label, shown_unselected}
 use Rattle.rvs_coverage.specs.declared.covering.Covered.{Covered}
 use Rattle.rvs_generate.specs.declared.gathering.Test.{Test}
 use Rattle.rvs_words.specs.declared.command.ReportArguments.{ReportArguments}

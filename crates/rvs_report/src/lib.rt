@@ -3,7 +3,7 @@
 
 mod reporting;
 mod reviewing;
-mod showing;
 
 pub use reporting::report_run;
-pub use reviewing::{Found, Likeness};
+pub use reviewing::Likeness;
+pub use rvs_showing::Found;

@@ -1,5 +1,5 @@
 // The command `report`.
-ghost use Rattle.std.specs.Prelude.{◌≡◌, [], All, IfOk, IfSome, take, drop};
+ghost use Rattle.std.specs.Prelude.{◌≡◌, [], All, IfOk, take, drop};
 ghost use Rattle.rvs_base.specs.Host.{HostState};
 ghost use Rattle.rvs_base.specs.Sink.{SinkState};
 ghost use Rattle.rvs_plan.specs.World.{World, world, IsAnswer};
@@ -9,12 +9,11 @@ ghost use Rattle.rvs_cgf.specs.GroupView.{label_view};
 ghost use Rattle.rvs_count.specs.Report.{width};
 ghost use Rattle.rvs_device.specs.DeviceView.{told};
 ghost use Rattle.rvs_page.specs.declared.shown.State.TheVariants as state;
-ghost use Rattle.rvs_test.specs.Claimed.{TestRuns};
 ghost use Rattle.rvs_test.specs.Made.{text_of_label};
 ghost use Rattle.rvs_report.specs.Findings.{found_open};
 ghost use Rattle.rvs_generate.specs.GenerateView.{IsMade};
 ghost use Rattle.rvs_inputs.specs.GroupsView.{groups_view, inputs_view};
-ghost use Rattle.rvs_report.specs.Showing.{shown_label, shown_unselected};
+ghost use Rattle.rvs_showing.specs.Showing.{shown_label, shown_unselected};
 ghost use Rattle.rvs_generate.specs.Testable.{IsTestable, IsTestableIfSelected};
 ghost use Rattle.rvs_generate.specs.Tests.{IsRunnable};
 ghost use Rattle.rvs_report.specs.Report.{end_by, instructions_in, page_with, shown_core};
@@ -22,7 +21,6 @@ ghost use Rattle.rvs_report.specs.Report.{shows_test, shows_by, shows_label, sho
 ghost use Rattle.rvs_report.specs.Report.{finds_page, puts_page, report};
 
 use crate::reviewing::{find_test, found_open};
-use crate::showing::{shown_label, unselected};
 use rvs_base::{Host, Items, NoMemory, Sink, Text};
 use rvs_cgf::Label;
 use rvs_coverage::{Covered, count_quietly, total_of};
@@ -33,6 +31,7 @@ use rvs_insn::{IsaSpec, isa_text};
 use rvs_isa::misa_word;
 use rvs_page::{Core, Label as ShownLabel, Page, State, Verdict, page_text, verdict_of};
 use rvs_plan::{Finish, Stop, print};
+use rvs_showing::{shown_label, unselected};
 use rvs_test::{Claim, Made};
 use rvs_words::{ReportArguments, owned};
 use std::alloc::Global;
@@ -234,8 +233,7 @@ fn show_made<H: Host>(
     counts: &[u64],
 ) -> Result<ShownLabel, Stop>
     requires made { IsMade isa (label_view label.now) made }
-    requires runs { IfSome made.text (λ text.
-        TestRuns isa (label_view label.now) text made.claims made.steps) }
+    requires testable { IsTestable isa (label_view label.now) }
     ensures { (out : SinkState) → MeetsWith IsAnswer (shows_by isa work.now counts.now
         (label_view label.now) (text_of_label isa (label_view label.now)))
         (world (H.state host.old) out) (world (H.state host.new) out) result }

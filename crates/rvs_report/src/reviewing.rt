@@ -16,6 +16,7 @@ use rvs_generate::{Test, TestFiles, reference_of};
 use rvs_insn::IsaSpec;
 use rvs_page::State;
 use rvs_plan::Stop;
+use rvs_showing::Found;
 use rvs_sig::{SigRefusal, Verdict, compare, print_words, read_words};
 use rvs_words::owned;
 use std::alloc::Global;
@@ -29,16 +30,6 @@ pub enum Likeness {
     Other,
     /// It holds this.
     Same,
-}
-
-/// What is found of a test.
-#[derive(Drop)]
-pub struct Found {
-    pub state: State,
-    /// The device's words, where they are as many as the reference's and not the same.
-    pub device: Items<u32>,
-    /// The reference's words, where the device's are here.
-    pub reference: Items<u32>,
 }
 
 /// A state in which there are no words to compare.

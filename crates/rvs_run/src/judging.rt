@@ -92,7 +92,7 @@ fn make_held(alloc: Global, bench: &Bench, test: &Test) -> Result<Made, Stop>
     ensures { Accepts (Ok (made_for (bench_view bench.now) test.now)) result }
 {
     let files = TestFiles::new(alloc, &bench.work, &test.name)?;
-    made_of(alloc, bench, files, test.text.as_str().as_bytes())
+    made_found(alloc, bench, files, test.text.as_str().as_bytes())
 }
 
 /// Reads a test, and runs it on the reference machine.
@@ -107,11 +107,11 @@ fn make_given<H: Host>(
 {
     let bytes = read_input(alloc, host, given.name.as_str(), TEST_LIMIT)?;
     let files = TestFiles::of_given(alloc, &bench.work, given)?;
-    made_of(alloc, bench, files, bytes.as_slice())
+    made_found(alloc, bench, files, bytes.as_slice())
 }
 
 /// What comes of a test with these files and bytes before it is judged.
-fn made_of(alloc: Global, bench: &Bench, files: TestFiles, bytes: &[u8]) -> Result<Made, Stop>
+fn made_found(alloc: Global, bench: &Bench, files: TestFiles, bytes: &[u8]) -> Result<Made, Stop>
     ensures { Accepts (made_found (bench_view bench.now) files bytes.now) result }
 {
     let image = image_of(alloc, bench.isa, files.test.as_str(), bytes)?;

@@ -17,7 +17,7 @@ use Rattle.rvs_solver.specs.Point.{is_valid}
 use Rattle.rvs_solver.specs.Solving.{first_meant, first_of_point, first_at, bound_meant, bound_at}
 use Rattle.rvs_solver.specs.Solving.{SolvesAs, IsLeastAt, IsSolvableAs}
 use Rattle.rvs_solver.specs.Solving.{IsSolvableAt}
-use Rattle.rvs_solver.specs.declared.solved.Solved.{Solved}
+use Rattle.rvs_choice.specs.declared.solved.Solved.{Solved}
 
 -- ---- meanings of keys are of one language
 

@@ -6,8 +6,8 @@ use Rattle.rvs_insn.specs.declared.op.Op.{Op}
 use Rattle.rvs_insn.specs.Isa.{Isa}
 use Rattle.rvs_points.specs.Points.{Meaning, Point}
 use Rattle.rvs_points.specs.declared.group.Kind.{Kind}
-use Rattle.rvs_solver.specs.declared.solved.Solved.{Solved}
-use Rattle.rvs_solver.specs.declared.solved.Solved.TheVariants.{One}
+use Rattle.rvs_choice.specs.declared.solved.Solved.{Solved}
+use Rattle.rvs_choice.specs.declared.solved.Solved.TheVariants.{One}
 use Rattle.rvs_solver.specs.Choices.{ChoiceValue}
 use Rattle.rvs_solver.specs.First.{first_choice, Solvable}
 use Rattle.rvs_solver.specs.Bound.{bound}

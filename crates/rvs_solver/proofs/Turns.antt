@@ -4,10 +4,9 @@ use Rattle.std.proofs.Common.{map, length, get_or, drop, take, Option, Some, Non
 use Rattle.std.proofs.Common.{sym, ap, ◌∙◌, arith}
 use Rattle.std.specs.Prelude.{find, sum_by}
 use Rattle.std.specs.Option.{option_or}
-use Rattle.std.proofs.lemmas.List.{map_more}
+use Rattle.std.proofs.lemmas.List.{map_more, drop_more}
 use Rattle.std.proofs.lemmas.List.Folds.{find-append}
 use Rattle.std.proofs.lemmas.List.Sums.{sum_by_more, sum_by-take-le}
-use Rattle.rvs_cross.proofs.Searching.{rest_at}
 use Rattle.rvs_solver.specs.declared.operand.Operand.{Operand}
 use Rattle.rvs_solver.specs.Choices.{ChoiceValue}
 use Rattle.rvs_solver.specs.Walk.{storing_address, own_addresses}
@@ -63,12 +62,12 @@ passed_at p y z o is h = ap (λ t. cond t (Some z) o) (ap p (sym is) ∙ h)
 pub map_found : {X Y : Type 0} (p : Y → Bool) (f : X → Y) (xs : List X) (i : ℕ) (d : X) (y : Y)
     (whole : Option Y) → i < length xs → whole ≡ find p (map f (drop i xs)) → y ≡ f (get_or xs i d)
     → p y ≡ true → Some y ≡ whole
-map_found p f xs i d y whole h inv is hit = grind (arith, map, rest_at, found_at, get_or, drop)
+map_found p f xs i d y whole h inv is hit = grind (arith, map, drop_more, found_at, get_or, drop)
 
 pub map_passed : {X Y : Type 0} (p : Y → Bool) (f : X → Y) (xs : List X) (i : ℕ) (d : X) (y : Y)
     (whole : Option Y) → i < length xs → whole ≡ find p (map f (drop i xs)) → y ≡ f (get_or xs i d)
     → p y ≡ false → whole ≡ find p (map f (drop (i + 1) xs))
-map_passed p f xs i d y whole h inv is miss = grind (arith, map, rest_at, passed_at, get_or, drop)
+map_passed p f xs i d y whole h inv is miss = grind (arith, map, drop_more, passed_at, get_or, drop)
 
 -- ---- the choice that stores its own address
 

@@ -6,12 +6,12 @@ use Rattle.rvs_insn.specs.Isa.{Isa}
 use Rattle.rvs_insn.specs.Fields.{Fields}
 use Rattle.rvs_cross.specs.Cross.{Place}
 use Rattle.rvs_cross.specs.Windows.{matches}
-use Rattle.rvs_cross.specs.Sequences.{IsComputing, first_sequence}
-use Rattle.rvs_cross.specs.Sequences as cross
+use Rattle.rvs_sequences.specs.Sequences.{IsComputing, first_sequence}
+use Rattle.rvs_sequences.specs.Sequences as cross
 use Rattle.rvs_points.specs.Points.{Meaning, window, Point, Label}
 use Rattle.rvs_points.specs.declared.group.Kind.{Kind}
-use Rattle.rvs_solver.specs.declared.solved.Solved.{Solved}
-use Rattle.rvs_solver.specs.declared.solved.Solved.TheVariants.{One, Many}
+use Rattle.rvs_choice.specs.declared.solved.Solved.{Solved}
+use Rattle.rvs_choice.specs.declared.solved.Solved.TheVariants.{One, Many}
 use Rattle.rvs_solver.specs.Choices.{ChoiceValue}
 use Rattle.rvs_solver.specs.First.{first_choice, IsLeast, Solvable, HasOneWordEach}
 use Rattle.rvs_solver.specs.Bound.{bound}

@@ -8,6 +8,7 @@ use Rattle.rvs_expr.specs.Meaning.{Table}
 use Rattle.rvs_expr.specs.Constants.{formula_numerals, kept}
 use Rattle.rvs_expr.specs.Only as only
 use Rattle.rvs_expr.specs.Parts as parts
+pub use Rattle.rvs_choice.specs.Choice.{IsNarrow}
 
 -- every name is there, and the value is true
 unfoldable pub holds : Formula → Table → Bool
@@ -31,9 +32,6 @@ holds_within names e t = only.holds_within names t e
 
 abbrev pub num_at : Table → NumName → Option ℤ
 num_at t name = t.num name
-
-abbrev pub IsNarrow : ℤ → Type 0
-IsNarrow z = unsigned_abs z ≤ 2 ^ 32
 
 abbrev pub IsShort : ℤ → Type 0
 IsShort z = unsigned_abs z ≤ 2 ^ 20

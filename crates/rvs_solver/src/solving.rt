@@ -2,8 +2,8 @@
 ghost use Rattle.std.specs.Prelude.{◌≡◌, [], ◌+◌, ◌*◌, ◌≤◌, ◌<◌, length, option_map, true, false};
 ghost use Rattle.std.specs.Prelude.{IfOk, IfNone, IfSome, find, flat_map, sum_by};
 ghost use Rattle.rvs_cross.specs.CrossView.{cross_view};
-ghost use Rattle.rvs_cross.specs.Sequences.{first_sequence};
-ghost use Rattle.rvs_cross.specs.Sequences as sequences;
+ghost use Rattle.rvs_sequences.specs.Sequences.{first_sequence};
+ghost use Rattle.rvs_sequences.specs.Sequences as sequences;
 ghost use Rattle.rvs_points.specs.Points.{window};
 ghost use Rattle.rvs_points.specs.PointView.{meaning_view, point_view, label_view};
 ghost use Rattle.rvs_points.specs.Valid.{IsValid};
@@ -15,16 +15,16 @@ ghost use Rattle.rvs_solver.specs.Solving.{IsLeastAt, IsLeastChoice, IsWindow, S
 ghost use Rattle.rvs_solver.specs.Solving.{IsSolvableAs, IsSolvableAt, HaveOneWordEach};
 ghost use Rattle.rvs_solver.specs.Bound.{bound_of, bound};
 
-use crate::choice::Choice;
 use crate::orders::{rds, rs1s, rs2s};
 use crate::registers::RegisterSearch;
-use crate::solved::Solved;
 use crate::values::first_value;
 use rvs_base::NoMemory;
-use rvs_cross::{Cross, solve_cross};
+use rvs_choice::{Choice, Solved};
+use rvs_cross::Cross;
 use rvs_expr::Steps;
 use rvs_insn::{Format, IsaSpec, Op, format};
 use rvs_points::{Kind, Label, Meaning, Point};
+use rvs_sequences::solve_cross;
 use std::alloc::Global;
 use std::sync::ledger::Ledger;
 

@@ -4,8 +4,8 @@ ghost use Rattle.rvs_expr.specs.TypedView.{view};
 ghost use Rattle.rvs_solver.specs.Choices.{table_of};
 ghost use Rattle.rvs_solver.specs.Truth.{IsNarrow, holds, uses, constants_in, part_of};
 
-use crate::choice::Choice;
 use rvs_base::NoMemory;
+use rvs_choice::Choice;
 use rvs_expr::{Expr, NumName, Steps};
 use std::alloc::Global;
 use std::sync::ledger::Ledger;

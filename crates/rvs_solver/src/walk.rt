@@ -7,9 +7,9 @@ ghost use Rattle.rvs_solver.specs.Walk.{search_view, is_true_at, with_numbers, a
 ghost use Rattle.rvs_solver.specs.Walk.{own_addresses, found_at, own_at, first_in, passes_in};
 ghost use Rattle.rvs_solver.specs.Walk.{MayPassOver, cost_at};
 
-use crate::choice::Choice;
 use crate::operand::Operand;
 use crate::truth::is_true;
+use rvs_choice::Choice;
 use rvs_expr::{Expr, Steps};
 use std::sync::ledger::Ledger;
 

@@ -1,9 +1,8 @@
 -- Reading a database: it only reads, and what it finds over given files.
 use Rattle.std.proofs.lemmas.Bool.Decides.{nat_tests}
-use Rattle.std.proofs.Common.{◌≡◌, ℕ, List, Option, Result, Ok, sym, arith}
+use Rattle.std.proofs.Common.{◌≡◌, ℕ, List, Result, Ok, sym, arith}
 use Rattle.rvs_base.specs.Host.{Files}
 use Rattle.rvs_plan.specs.Plan.{followed}
-use Rattle.rvs_device.specs.DeviceFile.{Told}
 use Rattle.rvs_plan.specs.Inputs.{part_end}
 use Rattle.rvs_plan.specs.declared.stop.Stop.{Stop}
 use Rattle.rvs_insn.specs.Isa.{Isa}
@@ -17,10 +16,7 @@ use Rattle.rvs_select.proofs.Accepted.{accepts, read_few}
 use Rattle.rvs_inputs.specs.GroupFiles.{and_then}
 use Rattle.rvs_inputs.specs.DatabaseInput.{database_limit, checked_end, tree_end, checks}
 use Rattle.rvs_inputs.specs.DatabaseInput.{database_file, database_in}
-use Rattle.rvs_inputs.specs.DatabaseInput.{marked_file, marked_in}
-use Rattle.rvs_parts.specs.Parts.{PartValue}
 use Rattle.rvs_suite.specs.JudgingDatabase.{database_inputs_in}
-use Rattle.rvs_run.specs.RunDatabase.{DatabaseInputs}
 use Rattle.rvs_run.specs.RunDatabase.{database_inputs}
 use Rattle.rvs_plain.specs.Select.{selection_in, reads_selection}
 use Rattle.rvs_suite.specs.Selecting.{HoldsTests}

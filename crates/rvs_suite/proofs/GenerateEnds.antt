@@ -12,7 +12,7 @@ use Rattle.rvs_plan.specs.declared.stop.Stop.TheVariants as why
 use Rattle.rvs_plan.specs.declared.status.Status.TheVariants as answer
 use Rattle.rvs_plan.specs.declared.status.Finish.TheVariants.{Done}
 use Rattle.rvs_insn.specs.Isa.{Isa}
-use Rattle.rvs_insn.specs.Memory.{Memory, HasRoom}
+use Rattle.rvs_insn.specs.Memory.{Memory}
 use Rattle.rvs_cgf.specs.Groups.{Label, Point}
 use Rattle.rvs_solver.specs.Solving.{IsSolvableAt}
 use Rattle.rvs_test_text.specs.declared.claim.Claim.{Claim}
@@ -43,8 +43,8 @@ use Rattle.rvs_suite.proofs.NoTest.{no-point, listing-none}
 use Rattle.rvs_suite.proofs.OneTest.{one-point, file-there}
 use Rattle.rvs_suite.proofs.Sparing.{generate-spares}
 use Rattle.rvs_suite.proofs.Signed.{has-test, proved}
-use Rattle.rvs_suite.proofs.Tested.{good-inputs, placed-inputs, testable-labels, runs-label}
-use Rattle.rvs_suite.proofs.Tested.{tested-labels}
+use Rattle.rvs_suite.proofs.Tested.{good-inputs, placed-inputs, testable-labels, tested-labels}
+use Rattle.rvs_generate.proofs.Runnable.{runs-label}
 use Rattle.rvs_words.specs.declared.command.GenerateArguments.{GenerateArguments}
 
 -- ---- the tests are deeds, and what they leave
@@ -114,11 +114,11 @@ files-one work b name text files = if b then generating.with_text (path_of work 
     else files
 
 one-test : {call : Call} (work : List ℕ) (isa : Isa) (l : Label) (p : Point)
-    → HasRoom isa.memory → IsTestableIfSelected isa l → IsTrue l.selected → l.points ≡ p ∷ []
+    → IsTestableIfSelected isa l → IsTrue l.selected → l.points ≡ p ∷ []
     → IsSolvableAt isa l 0
     → call.new.host.files ≡ generating.with_tests work isa (l ∷ []) call.old.host.files
     → generating.HasOneTest call work isa l
-one-test {call} work isa l p place test selected one solvable files =
+one-test {call} work isa l p test selected one solvable files =
     let found = one-point isa l p one solvable in
     let chosen : l.selected ≡ true = selected in
     let left : call.new.host.files ≡ written (path_of work l.name) found.text call.old.host.files =
@@ -131,7 +131,7 @@ one-test {call} work isa l p place test selected one solvable files =
       there = λ files' told. file-there (path_of work l.name) found.text call.old.host.files files'
           (sym left ∙ told);
       runs = subst (λ (cs : List Claim). TestRuns isa l found.text cs (step_limit (cases_of isa l)))
-          found.claims (runs-label isa l found.text place (test selected) found.is);
+          found.claims (runs-label isa l found.text (test selected) found.is);
     }
 
 -- ---- no point
@@ -246,8 +246,8 @@ makes {call} files asked r = record {
       let made = generated {call = call} asked.work
       (labels_in files asked.part asked.isa asked.families asked.groups) inputs given
       ((answers-generate files asked r).done is) in
-      one-test asked.work isa' l p all.place (All-head (IsTestableIfSelected isa') l [] all.each)
-      selected single solvable made.files;
+      one-test asked.work isa' l p (All-head (IsTestableIfSelected isa') l [] all.each) selected
+      single solvable made.files;
   none = λ isa' l p given selected single skipped never is.
       none-test asked.work isa' l p selected single skipped never
       (generated {call = call} asked.work

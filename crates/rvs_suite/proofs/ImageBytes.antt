@@ -8,7 +8,7 @@ use Rattle.rvs_text.specs.Outcomes.{◌>>=◌}
 use Rattle.rvs_insn.specs.Isa.{Isa}
 use Rattle.rvs_insn.specs.Word.{word_of}
 use Rattle.rvs_insn.specs.Memory.{Memory}
-use Rattle.rvs_machine.specs.Image.{ImageValue, if_image}
+use Rattle.rvs_machine.specs.Image.{ImageValue}
 use Rattle.rvs_machine.specs.FileLines.{Rest}
 use Rattle.rvs_machine.specs.ImageText as file
 use Rattle.rvs_machine.specs.declared.reading.ImageRefusal.{ImageRefusal}
@@ -25,7 +25,7 @@ use Rattle.rvs_asm.specs.Bytes.{linked, number_bytes, value_bytes, repeated}
 use Rattle.rvs_asm.specs.Bytes.{filler, bytes_of, section}
 use Rattle.rvs_asm.specs.Faults.{first_fault}
 use Rattle.rvs_log.proofs.Octets.{AreBytes, joined, front, word_bytes}
-use Rattle.rvs_asm.specs.Answer.{text_readings, image_of, region_checked, if_all_there, if_linked}
+use Rattle.rvs_asm.specs.Answer.{text_readings, image_of, if_all_there, if_linked}
 use Rattle.rvs_asm.specs.Answer.{if_placed, answer}
 
 -- the bytes of an image

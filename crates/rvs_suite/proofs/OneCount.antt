@@ -1,8 +1,6 @@
 -- The report on a log of one instruction, which hits the only point of the only label.
 use Rattle.std.proofs.Common.{◌≡◌, ℕ, Bool, true, false, List, [], ◌∷◌, map, length}
 use Rattle.std.proofs.Common.{Option, Some, None, ap, ◌∙◌, IsTrue, sym, arith}
-use Rattle.std.specs.Prelude.{count_by}
-use Rattle.std.proofs.lemmas.List.Sums.{sum_by-cons}
 use Rattle.rvs_insn.specs.Fields.{Fields}
 use Rattle.rvs_facts.specs.Facts.{facts_of}
 use Rattle.rvs_cross.specs.Cross.{Place}

@@ -1,8 +1,7 @@
 -- The report on a log of two instructions, of which the second stores the first one's result.
-use Rattle.std.proofs.Common.{◌≡◌, ℕ, Bool, true, false, List, [], ◌∷◌, map, length}
+use Rattle.std.proofs.Common.{◌≡◌, ℕ, true, false, List, [], ◌∷◌, map, length}
 use Rattle.std.proofs.Common.{IsTrue, refl, sym, ap, ◌∙◌, arith}
-use Rattle.std.specs.Prelude.{◌==◌, count_by}
-use Rattle.std.proofs.lemmas.List.Sums.{sum_by-cons}
+use Rattle.std.specs.Prelude.{◌==◌}
 use Rattle.rvs_log.specs.Entries.{Entry, entries_of}
 use Rattle.rvs_cgf.specs.Groups.{Meaning, Label, Point}
 use Rattle.rvs_index.specs.Counting.{Aim, aims_of, hits}

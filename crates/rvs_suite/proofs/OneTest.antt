@@ -7,7 +7,7 @@ use Rattle.rvs_base.specs.Host.{Files, written}
 use Rattle.rvs_insn.specs.Isa.{Isa}
 use Rattle.rvs_cgf.specs.Groups.{Label, Point}
 use Rattle.rvs_solver.specs.Solving.{first_at, IsSolvableAt}
-use Rattle.rvs_solver.specs.declared.solved.Solved.{Solved}
+use Rattle.rvs_choice.specs.declared.solved.Solved.{Solved}
 use Rattle.rvs_test_text.specs.declared.claim.Claim.{Claim}
 use Rattle.rvs_test.specs.Made.{is_solved, solved_among, numbered, claims_of, cases_of}
 use Rattle.rvs_test.specs.Made.{cases_among, text_for, text_of_label}

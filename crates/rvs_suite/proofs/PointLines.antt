@@ -14,8 +14,10 @@ use Rattle.rvs_solver.specs.Solving.{IsSolvableAt}
 use Rattle.rvs_test_text.specs.declared.claim.Claim.{Claim}
 use Rattle.rvs_test.specs.Made.{places, is_solved, solved_among, numbered, claims_of, unsolved_of}
 use Rattle.rvs_test.proofs.Joined.{accounted}
-use Rattle.rvs_generate.specs.GenerateTexts.{case_line, unsolved_line, case_at}
-use Rattle.rvs_generate.specs.GenerateTexts.{claims_after, point_lines}
+use Rattle.rvs_generate.specs.GenerateTexts.{case_line, unsolved_line}
+use Rattle.rvs_test_text.specs.Claims.{case_at}
+use Rattle.rvs_generate.specs.GenerateTexts.{point_lines}
+use Rattle.rvs_test_text.specs.Claims.{claims_after}
 use Rattle.rvs_suite.specs.Tested.{HasLines}
 
 -- ---- a point is solved exactly where a choice hits it

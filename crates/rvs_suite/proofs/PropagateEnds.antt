@@ -16,7 +16,7 @@ use Rattle.rvs_cgf.specs.Groups.{Meaning}
 use Rattle.rvs_index.specs.Counting.{Aim, aims_of, hits}
 use Rattle.rvs_prop.specs.Acts.{Act, acts_of}
 use Rattle.rvs_prop.proofs.Listing.{acts_are_entries}
-use Rattle.rvs_coverage.specs.declared.propagating.Traced.{Traced}
+use Rattle.rvs_propagate.specs.declared.propagating.Traced.{Traced}
 use Rattle.rvs_prop.specs.Reach.{reached, reaches}
 use Rattle.std.specs.Prelude.{◌&&◌}
 use Rattle.rvs_prop.specs.Report.{report_of}
@@ -27,8 +27,8 @@ use Rattle.rvs_suite.specs.Answered.{Answered, OnDone}
 use Rattle.rvs_suite.specs.Covering.{HasReported}
 use Rattle.rvs_inputs.specs.GroupFiles.{Inputs, inputs_in}
 use Rattle.rvs_inputs.specs.Printing.{print_text}
-use Rattle.rvs_coverage.specs.Propagate.{measure, untracked, tracked_with, tracks_more, file_name}
-use Rattle.rvs_coverage.specs.Propagate.{report_on, report_with, report_in, reported, propagate}
+use Rattle.rvs_propagate.specs.Propagate.{measure, untracked, tracked_with, tracks_more, file_name}
+use Rattle.rvs_propagate.specs.Propagate.{report_on, report_with, report_in, reported, propagate}
 use Rattle.rvs_coverage.specs.LogLines.{lines_of_many}
 use Rattle.rvs_coverage.specs.LogReport.{AreLogs}
 use Rattle.rvs_coverage.specs.Summing.{sum_up_to_most, over, summed}

@@ -5,7 +5,6 @@ use Rattle.std.proofs.Common.{nat_lt, Result, Ok, refl, sym, ap, subst, ◌∙�
 use Rattle.std.specs.Prelude.{bytes_eq}
 use Rattle.std.proofs.lemmas.List.Elements.{All-nil, All-cons, All-head, All-tail, All-append}
 use Rattle.rvs_base.specs.Host.{Files}
-use Rattle.rvs_plan.specs.declared.stop.Stop.{Stop}
 use Rattle.rvs_insn.specs.Isa.{Isa}
 use Rattle.rvs_cgf.specs.Groups.{Label}
 use Rattle.rvs_count.specs.Report.{width}
@@ -16,7 +15,7 @@ use Rattle.rvs_sig.specs.declared.words.SigRefusal.{SigRefusal}
 use Rattle.rvs_sig.specs.declared.comparison.Verdict.{Verdict}
 use Rattle.rvs_sig.specs.declared.comparison.Verdict.TheVariants as sig
 use Rattle.rvs_device.specs.DeviceFile.{Told}
-use Rattle.rvs_device.specs.Judged.{signature_limit, verdict_on}
+use Rattle.rvs_device.specs.Judged.{verdict_on}
 use Rattle.rvs_device.specs.Judged as judged
 use Rattle.rvs_device.specs.Judging.{Task, Spells}
 use Rattle.rvs_device.specs.declared.verdicts.TestVerdict.{TestVerdict}
@@ -38,12 +37,12 @@ use Rattle.rvs_generate.specs.Tests.{reference_words, test_with, tests_of_label,
 use Rattle.rvs_generate.specs.TestFiles.{files_of}
 use Rattle.rvs_report.specs.Findings.{likeness, found_open, compared, spelt, found_on}
 use Rattle.rvs_report.specs.Findings.{by_likeness, finding_in}
-use Rattle.rvs_report.specs.Showing.{shown_unselected}
+use Rattle.rvs_showing.specs.Showing.{shown_unselected}
 use Rattle.rvs_report.specs.Report.{test_of, page_with, shown_by, shown_in, all_shown_in, page_in}
 use Rattle.rvs_suite.specs.Reporting.{HoldPass, AreAlike}
 use Rattle.rvs_coverage.specs.declared.covering.Covered.{Covered}
 use Rattle.rvs_report.specs.declared.reviewing.Likeness.TheVariants.{Other, Same}
-use Rattle.rvs_report.specs.declared.reviewing.Found.{Found}
+use Rattle.rvs_showing.specs.declared.found.Found.{Found}
 use Rattle.rvs_generate.specs.declared.gathering.Test.{Test}
 use Rattle.rvs_words.specs.declared.command.ReportArguments.{ReportArguments}
 

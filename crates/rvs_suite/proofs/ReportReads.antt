@@ -8,7 +8,7 @@ use Rattle.rvs_plan.specs.Inputs.{input}
 use Rattle.rvs_insn.specs.Isa.{Isa}
 use Rattle.rvs_cgf.specs.Groups.{Label}
 use Rattle.rvs_count.specs.Report.{width}
-use Rattle.rvs_test.specs.Made.{claims_of, text_of_label}
+use Rattle.rvs_test.specs.Made.{text_of_label}
 use Rattle.rvs_device.specs.DeviceFile.{Told}
 use Rattle.rvs_page.specs.declared.shown.Page.{Page}
 use Rattle.rvs_page.specs.declared.shown.Label.{Label as ShownLabel}
@@ -18,14 +18,13 @@ use Rattle.rvs_inputs.specs.DeviceInput.{device_limit, checks, device_file, devi
 use Rattle.rvs_coverage.specs.LogReport.{takes_logs, logs_in}
 use Rattle.rvs_coverage.specs.Coverage.{uncounted, counts_more, file_name}
 use Rattle.rvs_generate.specs.TestFiles.{files_of}
-use Rattle.rvs_report.specs.Findings.{by_likeness, finding_in}
 use Rattle.rvs_report.specs.Findings.{if_like, finds_words, finds_test}
-use Rattle.rvs_report.specs.Showing.{shown_label, shown_unselected}
+use Rattle.rvs_showing.specs.Showing.{shown_unselected}
 use Rattle.rvs_report.specs.Report.{page_with, shown_by, shown_in, all_shown_in, page_in}
 use Rattle.rvs_report.specs.Report.{shows_by, shows_label, shows_labels, finds_page}
 use Rattle.rvs_coverage.specs.declared.covering.Covered.{Covered}
 use Rattle.rvs_report.specs.declared.reviewing.Likeness.{Likeness}
-use Rattle.rvs_report.specs.declared.reviewing.Found.{Found}
+use Rattle.rvs_showing.specs.declared.found.Found.{Found}
 use Rattle.rvs_generate.specs.declared.gathering.Test.{Test}
 use Rattle.rvs_words.specs.declared.command.ReportArguments.{ReportArguments}
 use Rattle.rvs_inputs.proofs.Readers.{OnlyReads, OnlyReads-then}

@@ -25,6 +25,7 @@ use Rattle.rvs_test.specs.Made.{has_room}
 use Rattle.rvs_test.proofs.Solvings.{cases_few, cases_ready}
 use Rattle.rvs_suite.specs.Answered.{Answered}
 use Rattle.rvs_suite.specs.Call.{Call, world_of}
+use Rattle.rvs_plan.specs.Refusing.{input_text}
 use Rattle.rvs_inputs.specs.GroupTexts.{group_text}
 use Rattle.rvs_inputs.specs.GroupFiles.{Inputs, and_then}
 use Rattle.rvs_generate.specs.TestedInputs.{lacks_room, no_room, unless_for, with_room}
@@ -99,7 +100,7 @@ twelve = grind (arith, decimal_step_wide, decimal_digit)
 no_room-line : (name : List ℕ) → is_label_name name ≡ true
     → group_text (refusal_at (at_label name) NoRoom)
     ≡ codes "coverage files: cgf 12 " ++ (name ++ codes " - -")
-unfolding group_text
+unfolding input_text
 no_room-line [] named = absurd cc
 no_room-line (c ∷ cs) named = ap (λ ds. codes "coverage files: cgf "
     ++ (ds ++ (codes " " ++ ((c ∷ cs) ++ codes " - -")))) twelve

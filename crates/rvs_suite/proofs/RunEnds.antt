@@ -4,6 +4,7 @@ use Rattle.std.proofs.Common.{Some, Result, Ok, Err, refl, sym, ap, subst}
 use Rattle.std.proofs.Common.{◌∙◌, Contains, IsTrue, arith, rules}
 use Rattle.rvs_base.specs.Host.{Files, Tells}
 use Rattle.rvs_base.specs.Sink.{appended}
+use Rattle.rvs_base.specs.declared.host.DeviceRun.{DeviceRun}
 use Rattle.rvs_plan.specs.World.{Contents, contents}
 use Rattle.rvs_plan.specs.Effect.{Answer, Effect, Out, after, Saw}
 use Rattle.rvs_plan.specs.Plan.{Plan, Ends, Goes, followed}
@@ -33,6 +34,7 @@ use Rattle.rvs_suite.specs.Rooms.{AsksForRoom}
 use Rattle.rvs_suite.specs.Signing.{IsSigned}
 use Rattle.rvs_suite.specs.Judging.{run_inputs_in, tests_in, HasJudged, HasJudgedTests}
 use Rattle.rvs_suite.specs.Judging.{HasTestFiles, Runs}
+use Rattle.rvs_suite.specs.RunLeft.{HaveRun}
 use Rattle.rvs_generate.specs.Tests.{held}
 use Rattle.rvs_generate.specs.declared.gathering.Test.{Test}
 use Rattle.rvs_generate.specs.declared.sources.Source.TheVariants.{Held}
@@ -47,7 +49,7 @@ use Rattle.rvs_suite.proofs.SparingTests.{run-spares}
 use Rattle.rvs_suite.proofs.Passed.{never-failed}
 use Rattle.rvs_suite.proofs.Signed.{has-test, proved}
 use Rattle.rvs_suite.proofs.Signs.{signs}
-use Rattle.rvs_suite.proofs.Standing.{files-stand, test_by, test-of}
+use Rattle.rvs_suite.proofs.Standing.{files-stand, runs-stand, test_by, test-of}
 use Rattle.rvs_suite.proofs.RoomEnds.{asks, asked-room, asked-then}
 use Rattle.rvs_suite.proofs.Tested.{good-inputs, placed-inputs, groups-accepted, tested-run}
 use Rattle.rvs_suite.proofs.Trials.{tried-all, told-runs, has-judged}
@@ -187,6 +189,24 @@ there {call} files asked r inputs test files' given inside ended told =
         (apart-labels files asked.part asked.isa asked.families asked.groups inputs.groups
         (groups-accepted files asked inputs given)) inside
 
+-- and the device was run once on each
+once : {call : Call} (files : Files) (asked : RunArguments) → RunsOn call files (Run asked)
+    → (inputs : RunInputs) (before after : List DeviceRun)
+    → run_inputs_in files asked ≡ Ok inputs
+    → (call.status ≡ answer.Done) ⊎ (call.status ≡ answer.NotPassed)
+    → call.old.host.runs ≡ Some before → call.new.host.runs ≡ Some after
+    → HaveRun (bench_of asked.program asked.work inputs) (tests_in inputs) before after
+once {call} files asked r inputs before after given ended old new =
+    elim ended [
+      | inl is ↦ stand finish.Done (judged-done files asked r is)
+      | inr is ↦ stand finish.NotPassed (judged-not_passed files asked r is)
+    ]
+  where
+    stand : (end : Finish) → WasJudged call files asked end
+        → HaveRun (bench_of asked.program asked.work inputs) (tests_in inputs) before after
+    stand end was = runs-stand {call = call} asked inputs end files before after
+        (given-left {call = call} files asked inputs end given was) old new
+
 -- that of a label with a solvable point has the property
 proved-there : {call : Call} (files : Files) (asked : RunArguments) → RunsOn call files (Run asked)
     → (inputs : RunInputs) (l : Label) (k : ℕ) (files' : Files)
@@ -324,4 +344,5 @@ judges {call} files asked r =
       each = proved-there files asked r;
       rooms = λ inputs given. rooms files asked r inputs given;
       there = there files asked r;
+      once = once files asked r;
     }

@@ -19,7 +19,7 @@ use Rattle.rvs_points.specs.Valid.{are_distinct}
 use Rattle.rvs_points.specs.declared.group.Kind.{Kind}
 use Rattle.rvs_normal.proofs.Truths.{not-true}
 use Rattle.rvs_solver.specs.Solving.{first_at, IsSolvableAt}
-use Rattle.rvs_solver.specs.declared.solved.Solved.{Solved}
+use Rattle.rvs_choice.specs.declared.solved.Solved.{Solved}
 use Rattle.rvs_test_text.specs.declared.claim.Claim.{Claim}
 use Rattle.rvs_test_text.specs.TestText.{step_limit}
 use Rattle.rvs_test.specs.Made.{claims_of, cases_of, text_for, text_of_label}

@@ -1,14 +1,13 @@
 -- Plans that read a few files at most.
 use Rattle.std.proofs.lemmas.Bool.Decides.{nat_tests}
-use Rattle.std.proofs.Common.{◌≤◌, ◌+◌, ◌-◌, ℕ, List, [], ◌∷◌, Option, Result, arith}
+use Rattle.std.proofs.Common.{◌≤◌, ◌-◌, ℕ, List, [], ◌∷◌, Option, arith}
 use Rattle.std.specs.Prelude.{⊤}
 use Rattle.rvs_base.specs.File.{ReadsAtMost}
 use Rattle.rvs_base.specs.Host.{Files, HostState}
 use Rattle.rvs_base.proofs.Reading.{ReadsAtMost-none}
 use Rattle.rvs_plan.specs.Effect.{Answer, Effect, Read, Device, Did}
-use Rattle.rvs_plan.specs.Plan.{Plan, Ends, Does, Asks, Runs, followed, ◌>>=◌}
+use Rattle.rvs_plan.specs.Plan.{Plan, Ends, Does, Asks, Runs}
 use Rattle.rvs_plan.specs.Reads.{TakesOn}
-use Rattle.rvs_plan.specs.declared.stop.Stop.{Stop}
 use Rattle.rvs_suite.specs.Call.{Call}
 use Rattle.rvs_suite.specs.Plans.{plan_of}
 use Rattle.rvs_words.specs.declared.command.Command.{Command}

@@ -27,7 +27,7 @@ use Rattle.rvs_generate.specs.TestFiles.{files_of}
 use Rattle.rvs_run.specs.RunTests.{Bench, RunInputs, files_for, asks_elf, made_for}
 use Rattle.rvs_run.specs.RunTests.{bench_of}
 use Rattle.rvs_suite.specs.RunLeft.{Trial, trial_of, started_on, with_trial, with_trials, runs_of}
-use Rattle.rvs_suite.specs.RunLeft.{IsTrialOf, AreTrialsOf, IsRunOf}
+use Rattle.rvs_suite.specs.RunLeft.{IsTrialOf, AreTrialsOf, IsRunOf, AreRunsOf, HaveRun}
 use Rattle.rvs_suite.specs.Judging.{tests_in, HasJudgedTests, HasTestFiles}
 use Rattle.rvs_generate.specs.declared.gathering.Test.{Test}
 use Rattle.rvs_generate.specs.declared.sources.Source.TheVariants.{Held}
@@ -265,4 +265,27 @@ files-stand {call} asked inputs end files files' test judged new apart there =
       made = λ runs is. among-runs (runs_of judged.trials) runs s.run call.old.host.runs s.among
           (sym is ∙ judged.tried.made);
       device = ap (λ (f : Files). f own.device) same ∙ s.device;
+    }
+
+-- one run for each test that was made
+are-runs : (bench : Bench) (files : Files) (tests : List Test) (trials : List Trial)
+    → AreTrialsOf bench files (held tests) trials → AreRunsOf bench tests (runs_of trials)
+are-runs bench files [] [] each = tt
+are-runs bench files [] (t ∷ ts) each = each
+are-runs bench files (test ∷ tests) [] each = each
+are-runs bench files (test ∷ tests) (t ∷ ts) each =
+    (held-run bench files test t each.0, are-runs bench (with_trial t files) tests ts each.1)
+
+pub runs-stand : {call : Call} (asked : RunArguments) (inputs : RunInputs) (end : Finish)
+    (files : Files) (before after : List DeviceRun) → HasJudgedTests call files asked inputs end
+    → call.old.host.runs ≡ Some before → call.new.host.runs ≡ Some after
+    → HaveRun (bench_of asked.program asked.work inputs) (tests_in inputs) before after
+runs-stand {call} asked inputs end files before after judged old new =
+    let both : Some after ≡ Some (before ++ runs_of judged.trials) = sym new ∙ judged.tried.made
+    ∙ ap (λ known. option_map (λ (b : List DeviceRun). b ++ runs_of judged.trials) known) old in
+    record {
+      runs = runs_of judged.trials;
+      each = are-runs (bench_of asked.program asked.work inputs) files (tests_in inputs)
+          judged.trials judged.tried.each;
+      behind = cc;
     }

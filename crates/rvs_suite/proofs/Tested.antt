@@ -1,8 +1,8 @@
 -- What holds of the tests that are made of accepted inputs.
-use Rattle.std.proofs.Common.{◌≡◌, ℕ, Bool, true, if◌then◌else◌, List, [], ◌∷◌, map, All}
+use Rattle.std.proofs.Common.{◌≡◌, ℕ, List, map, All}
 use Rattle.std.proofs.Common.{Contains, Option, Some, None, Result, Ok, Err, IfOk, IsTrue, refl}
 use Rattle.std.proofs.Common.{subst, arith, rules}
-use Rattle.std.proofs.lemmas.List.Elements.{All-nil, All-cons, All-append, All-head, All-tail}
+use Rattle.std.proofs.lemmas.List.Elements.{All-contains}
 use Rattle.std.specs.Prelude.{find}
 use Rattle.rvs_base.specs.Host.{Files}
 use Rattle.rvs_abstract.specs.declared.families.Families.{Families}
@@ -16,15 +16,10 @@ use Rattle.rvs_yaml.specs.Parsed.{Parsed}
 use Rattle.rvs_cgf.specs.Groups.{Label, Refusal, groups_of}
 use Rattle.rvs_points.specs.Valid.{IsValid, IsValidIfSelected}
 use Rattle.rvs_cgf.proofs.Validity.{groups_good}
-use Rattle.rvs_solver.specs.declared.solved.Solved.{Solved}
-use Rattle.rvs_test_text.specs.declared.claim.Claim.{Claim}
-use Rattle.rvs_test_text.specs.TestText.{step_limit, test_text}
-use Rattle.rvs_test_text.proofs.Fits.{regions_fit}
-use Rattle.rvs_test.specs.Made.{claims_of, cases_of, named_at, text_for, text_of_label}
-use Rattle.rvs_test.specs.Claimed.{TestRuns}
+use Rattle.rvs_test.specs.Made.{claims_of, text_of_label}
 use Rattle.rvs_test.specs.Named.{claims_read, named_claim}
 use Rattle.rvs_test.proofs.ReadBack.{back_there}
-use Rattle.rvs_test.proofs.Joined.{label_runs, accounted}
+use Rattle.rvs_test.proofs.Joined.{accounted}
 use Rattle.rvs_device.specs.DeviceFile.{Told}
 use Rattle.rvs_inputs.specs.Specification.{said_in}
 use Rattle.rvs_inputs.specs.GroupFiles.{Inputs, and_then, text_in, checked_groups, tree_groups}
@@ -33,14 +28,14 @@ use Rattle.rvs_generate.specs.TestedInputs.{lacks_room, unless_for, with_room, t
 use Rattle.rvs_inputs.specs.GroupFiles.{parted_inputs}
 use Rattle.rvs_generate.specs.Testable.{IsTestable, IsTestableIfSelected}
 use Rattle.rvs_parts.specs.Parts.{PartValue}
-use Rattle.rvs_generate.specs.Tests.{IsRunnable, test_with, tests_of_label, tests_of}
+use Rattle.rvs_generate.specs.Tests.{IsRunnable, tests_of}
 use Rattle.rvs_run.specs.RunTests.{RunInputs}
 use Rattle.rvs_suite.specs.Judging.{run_inputs_in}
 use Rattle.rvs_suite.specs.Tested.{AreTested}
 use Rattle.rvs_generate.specs.declared.gathering.Test.{Test}
 use Rattle.rvs_suite.proofs.PointLines.{has-lines}
 use Rattle.rvs_suite.proofs.Meanings.{says-of}
-use Rattle.rvs_generate.proofs.Runnable.{runnable}
+use Rattle.rvs_generate.proofs.Runnable.{whole, runs-label, runnable-all}
 use Rattle.rvs_generate.proofs.Testable.{all-testable}
 use Rattle.rvs_words.specs.declared.command.RunArguments.{RunArguments}
 use Rattle.rvs_inputs.proofs.PartsKept.{all-parted}
@@ -141,19 +136,7 @@ testable-of : (inputs : Inputs) (l : Label) → AreTestable inputs → Contains 
     → IsTrue l.selected → IsTestable inputs.isa l
 testable-of inputs l all there selected = grind arith
 
--- ---- the text of a label's test is that of its cases
-whole : (isa : Isa) (l : Label) (cs : List Solved) (text : List ℕ) → text_for isa l cs ≡ Some text
-    → test_text l.name isa (map (λ (c : Claim). named_at l c.point) (claims_of isa l)) cs ≡ text
-whole isa l cs text is = grind arith
-
-pub runs-label : (isa : Isa) (l : Label) (text : List ℕ) → HasRoom isa.memory → IsTestable isa l
-    → text_of_label isa l ≡ Some text
-    → TestRuns isa l text (claims_of isa l) (step_limit (cases_of isa l))
-runs-label isa l text place test is = subst
-    (λ (t : List ℕ). TestRuns isa l t (claims_of isa l) (step_limit (cases_of isa l)))
-    (whole isa l (cases_of isa l) text is)
-    (label_runs isa place l test.valid (regions_fit isa (cases_of isa l) test.room))
-
+-- ---- what its text claims is read back
 reads-label : (isa : Isa) → HasRoom isa.memory → (l : Label) (text : List ℕ) → IsValid isa l
     → text_of_label isa l ≡ Some text
     → claims_read text ≡ Some (map (named_claim l) (claims_of isa l))
@@ -164,7 +147,7 @@ tested-all : (inputs : Inputs) → AreTestable inputs → AreTested inputs
 tested-all inputs all = record {
   valid = λ l there selected. (testable-of inputs l all there selected).valid;
   runs = λ l text there selected is.
-      runs-label inputs.isa l text all.place (testable-of inputs l all there selected) is;
+      runs-label inputs.isa l text (testable-of inputs l all there selected) is;
   read = λ l text there selected is.
       reads-label inputs.isa all.place l text (testable-of inputs l all there selected).valid is;
   accounted = λ l k there within. accounted inputs.isa l k within;
@@ -176,32 +159,6 @@ pub tested-labels : (files : Files) (part : Option PartValue) (isa : List ℕ) (
     → labels_in files part isa families names ≡ Ok inputs → AreTested inputs
 tested-labels files part isa families names inputs given =
     tested-all inputs (testable-labels files part isa families names inputs given)
-
--- ---- each test can be run
-runnable-with : (isa : Isa) (l : Label) (text : Option (List ℕ)) → HasRoom isa.memory
-    → IsTestable isa l → text_of_label isa l ≡ text
-    → All (IsRunnable isa) (test_with l.name (step_limit (cases_of isa l)) text)
-runnable-with isa l None place test is = All-nil (IsRunnable isa)
-runnable-with isa l (Some text) place test is =
-    All-cons (IsRunnable isa) (record {
-      name = l.name;
-      text = text;
-      steps = step_limit (cases_of isa l);
-    }) [] (runnable isa l l.name text (claims_of isa l) (step_limit (cases_of isa l))
-    (runs-label isa l text place test is)) (All-nil (IsRunnable isa))
-
-runnable-by : (isa : Isa) (l : Label) (b : Bool) → HasRoom isa.memory
-    → (b ≡ true → IsTestable isa l) → All (IsRunnable isa)
-    (if b then test_with l.name (step_limit (cases_of isa l)) (text_of_label isa l) else [])
-runnable-by isa l b place test = search (rules, runnable-with)
-
-runnable-all : (isa : Isa) (ls : List Label) → HasRoom isa.memory
-    → All (IsTestableIfSelected isa) ls → All (IsRunnable isa) (tests_of isa ls)
-runnable-all isa [] place each = All-nil (IsRunnable isa)
-runnable-all isa (l ∷ ls) place each =
-    All-append (IsRunnable isa) (tests_of_label isa l) (tests_of isa ls)
-    (runnable-by isa l l.selected place (All-head (IsTestableIfSelected isa) l ls each))
-    (runnable-all isa ls place (All-tail (IsTestableIfSelected isa) l ls each))
 
 -- ---- what `run` accepts, it accepts of the same files
 abbrev with_device : Inputs → Result Told Stop → Result RunInputs Stop
@@ -228,4 +185,6 @@ pub runnable-labels : (files : Files) (part : Option PartValue) (isa : List ℕ)
     → labels_in files part isa families names ≡ Ok inputs → (test : Test)
     → Contains (tests_of inputs.isa inputs.groups) test → IsRunnable inputs.isa test
 runnable-labels files part isa families names inputs given test there =
-    grind (arith, testable-labels, runnable-all)
+    All-contains (IsRunnable inputs.isa) (tests_of inputs.isa inputs.groups) test
+    (runnable-all inputs.isa inputs.groups
+    (testable-labels files part isa families names inputs given).each) there

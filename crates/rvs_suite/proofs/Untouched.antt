@@ -28,7 +28,7 @@ use Rattle.rvs_generate.specs.Generate.{generates}
 use Rattle.rvs_plain.specs.Normalize.{print_normal}
 use Rattle.rvs_inputs.specs.Printing.{print_text}
 use Rattle.rvs_coverage.specs.Coverage as covering
-use Rattle.rvs_coverage.specs.Propagate as propagating
+use Rattle.rvs_propagate.specs.Propagate as propagating
 use Rattle.rvs_reference.specs.Reference.{trial, records, reference_on}
 use Rattle.rvs_generate.specs.Tests.{reference_words, held}
 use Rattle.rvs_run.specs.RunTests.{Bench, files_for, executable_for, announces_made, judges_one}

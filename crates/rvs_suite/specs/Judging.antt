@@ -26,7 +26,7 @@ use Rattle.rvs_generate.specs.TestFiles.{IsOther, files_of}
 use Rattle.rvs_run.specs.RunTests.{Bench, files_for, asks_elf, tally_line, verdict_of_all}
 use Rattle.rvs_run.specs.RunTests.{RunInputs, bench_of}
 use Rattle.rvs_suite.specs.RunLeft.{Trial, AreTrialsOf, with_trials, trial_lines, trials_passed}
-use Rattle.rvs_suite.specs.RunLeft.{runs_of, AreJudged, IsRunOf, task_of}
+use Rattle.rvs_suite.specs.RunLeft.{runs_of, AreJudged, IsRunOf, HaveRun, task_of}
 use Rattle.rvs_suite.specs.Signing.{IsSigned}
 use Rattle.rvs_generate.specs.declared.gathering.Test.{Test}
 use Rattle.rvs_generate.specs.declared.sources.Source.{Source}
@@ -111,6 +111,12 @@ pub record Runs (call : Call) (files : Files) (asked : RunArguments) : Type 0 wh
       → run_inputs_in files asked ≡ Ok inputs → Contains (tests_in inputs) test
       → (call.status ≡ Done) ⊎ (call.status ≡ NotPassed) → call.new.host.files ≡ Some files'
       → HasTestFiles call (bench_of asked.program asked.work inputs) test files'
+  -- where all tests were judged, the device was run once on each, in their order, and no more
+  pub once : (inputs : RunInputs) (before after : List DeviceRun)
+      → run_inputs_in files asked ≡ Ok inputs
+      → (call.status ≡ Done) ⊎ (call.status ≡ NotPassed)
+      → call.old.host.runs ≡ Some before → call.new.host.runs ≡ Some after
+      → HaveRun (bench_of asked.program asked.work inputs) (tests_in inputs) before after
   -- where one test was made, and the one run on it left the reference's words, it is done
   pub alone : (inputs : RunInputs) (test : Test) (before : List DeviceRun) (run : DeviceRun)
       → run_inputs_in files asked ≡ Ok inputs → tests_in inputs ≡ test ∷ []

@@ -11,7 +11,7 @@ use Rattle.rvs_words.specs.Commands.{command_of}
 use Rattle.rvs_plain.specs.Compare as comparing
 use Rattle.rvs_plain.specs.Validate as validating
 use Rattle.rvs_coverage.specs.Coverage as covering
-use Rattle.rvs_coverage.specs.Propagate as propagating
+use Rattle.rvs_propagate.specs.Propagate as propagating
 use Rattle.rvs_generate.specs.Generate as generating
 use Rattle.rvs_plain.specs.Normalize as normalizing
 use Rattle.rvs_reference.specs.Reference as running

@@ -6,7 +6,7 @@ use Rattle.rvs_plan.specs.declared.status.Status.TheVariants.{Done}
 use Rattle.rvs_log.specs.Progress.{IsFront, progress_line, put}
 use Rattle.rvs_suite.specs.Call.{Call, Asks}
 use Rattle.rvs_coverage.specs.Coverage as covering
-use Rattle.rvs_coverage.specs.Propagate as propagating
+use Rattle.rvs_propagate.specs.Propagate as propagating
 use Rattle.rvs_coverage.specs.Telling.{lines_of_logs}
 use Rattle.rvs_words.specs.Commands.{command_of}
 use Rattle.rvs_words.specs.declared.command.Command.{Command}

@@ -18,7 +18,7 @@ use Rattle.rvs_suite.specs.Call.{Call, Asks}
 use Rattle.rvs_suite.specs.Covering.{HasReported}
 use Rattle.rvs_inputs.specs.GroupFiles.{Inputs, inputs_in}
 use Rattle.rvs_log.specs.Lines.{log_limit}
-use Rattle.rvs_coverage.specs.Propagate.{file_name, report_in}
+use Rattle.rvs_propagate.specs.Propagate.{file_name, report_in}
 use Rattle.rvs_coverage.specs.LogReport.{AreLogs}
 use Rattle.rvs_coverage.specs.LogLines.{lines_of_many}
 use Rattle.rvs_coverage.specs.Summing.{over}

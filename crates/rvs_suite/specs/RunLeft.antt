@@ -132,6 +132,20 @@ pub record IsRunOf (bench : Bench) (test : Test) (run : DeviceRun) : Type 0 wher
   pub text : run.test ≡ Some test.text
   pub before : run.before ≡ Some []
 
+-- one run for each test, in their order, and no other
+abbrev pub AreRunsOf : Bench → List Test → List DeviceRun → Type 0
+AreRunsOf bench [] [] = ⊤
+AreRunsOf bench [] (run ∷ runs) = ⊥
+AreRunsOf bench (test ∷ tests) [] = ⊥
+AreRunsOf bench (test ∷ tests) (run ∷ runs) = IsRunOf bench test run × AreRunsOf bench tests runs
+
+-- these are the runs that stand behind those before, one for each test
+pub record HaveRun (bench : Bench) (tests : List Test) (before after : List DeviceRun)
+    : Type 0 where
+  pub runs : List DeviceRun
+  pub each : AreRunsOf bench tests runs
+  pub behind : after ≡ before ++ runs
+
 abbrev pub trial_of : Bench → Test → DeviceRun → Trial
 trial_of bench test run = record { source = Held test; made = made_for bench test; run = run }
 

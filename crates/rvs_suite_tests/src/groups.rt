@@ -1,8 +1,9 @@
 // Group files, as they are printed or refused.
 use crate::stage::{number, plain};
 use rvs_base::{Items, NoMemory, Text, release};
-use rvs_cgf::{CgfRefusal, Families, Groups, normal_text, read_groups, refusal_text};
+use rvs_cgf::{CgfRefusal, Families, Groups, normal_text, read_groups};
 use rvs_count::count_log;
+use rvs_fault::{Fault, Refusal};
 use rvs_insn::{IsaSpec, USUAL_MEMORY};
 use std::alloc::Global;
 use std::test::Fail;
@@ -24,7 +25,8 @@ fn printed(alloc: Global, file: &str) -> Result<Text, NoMemory> {
     };
     match read_groups(alloc, &tree, &CORE, Families::Stated) {
         Ok(groups) => normal_text(alloc, &groups),
-        Err(refusal) => refusal_text(alloc, &refusal),
+        Err(Fault::Refused(refusal)) => refusal.text(alloc),
+        Err(Fault::NoMemory) => Err(NoMemory),
     }
 }
 
@@ -120,7 +122,7 @@ fn many_labels(alloc: Global, count: u64) -> Result<String, Fail> {
 }
 
 fn tell_refusal(alloc: Global, refusal: &CgfRefusal, report: &mut String) -> Result<(), Fail> {
-    let why = refusal_text(alloc, refusal).map_err(|_| "no memory")?;
+    let why = refusal.text(alloc).map_err(|_| "no memory")?;
     write!(report, "{}\n", why.as_str())?;
     Ok(())
 }
@@ -136,11 +138,12 @@ fn tell_read(alloc: Global, file: &str, report: &mut String) -> Result<(), Fail>
             release(groups);
             told
         },
-        Err(refusal) => {
+        Err(Fault::Refused(refusal)) => {
             let told = tell_refusal(alloc, &refusal, report);
             release(refusal);
             told
         },
+        Err(Fault::NoMemory) => Err(Fail::new("no memory")),
     }
 }
 

@@ -27,10 +27,10 @@ fn asm_end() -> u8 {
 }
 
 fn cgf_end() -> u8 {
-    let kind = CgfKind::NoMemory;
+    let kind = CgfKind::NoRoom;
     let number = kind.number();
     release(kind);
-    number
+    number.saturating_add(1)
 }
 
 fn cross_end() -> u8 {
@@ -72,7 +72,7 @@ fn ends(alloc: Global) -> [u8; 13] {
         IsaKind::BadMemory.number().saturating_add(1),
         3,
         TrapKind::Ebreak.number().saturating_add(1),
-        YamlKind::NoMemory.number(),
+        YamlKind::TooManyNodes.number().saturating_add(1),
     ]
 }
 

@@ -8,8 +8,8 @@ use Rattle.rvs_insn.specs.declared.op.Op.{Op}
 use Rattle.rvs_insn.specs.Table.{row}
 use Rattle.rvs_insn.specs.Fields.{Fields}
 use Rattle.rvs_solver.specs.Choices.{ChoiceValue}
-use Rattle.rvs_solver.specs.declared.solved.Solved.{Solved}
-use Rattle.rvs_solver.specs.declared.solved.Solved.TheVariants.{Many}
+use Rattle.rvs_choice.specs.declared.solved.Solved.{Solved}
+use Rattle.rvs_choice.specs.declared.solved.Solved.TheVariants.{Many}
 use Rattle.rvs_test_text.specs.declared.statement.Statement.{Statement}
 use Rattle.rvs_test_text.specs.TestText.{bytes_all, source}
 use Rattle.rvs_test_text.specs.TestText.{reserve, plain_case, store_case, atomic_case}

@@ -6,7 +6,7 @@ use Rattle.rvs_insn.specs.Isa.{Isa}
 use Rattle.rvs_insn.specs.Memory.{Memory, HasRoom}
 use Rattle.rvs_points.specs.Points.{Label}
 use Rattle.rvs_points.specs.Valid.{IsValid}
-use Rattle.rvs_solver.specs.declared.solved.Solved.{Solved}
+use Rattle.rvs_choice.specs.declared.solved.Solved.{Solved}
 use Rattle.rvs_test_text.specs.TestText.{bytes_all, case_statements, cases, last_register}
 use Rattle.rvs_test_text.specs.TestText.{code_part}
 use Rattle.rvs_test_text.specs.Claim.{IsReady, AreReady}

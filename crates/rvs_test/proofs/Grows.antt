@@ -11,7 +11,7 @@ use Rattle.rvs_points.specs.declared.group.Label.{Label as Label'}
 use Rattle.rvs_solver.proofs.Labels.{point_there}
 use Rattle.rvs_insn.specs.Isa.{Isa}
 use Rattle.rvs_insn.specs.declared.op.Format.{Format}
-use Rattle.rvs_solver.specs.declared.solved.Solved.{Solved}
+use Rattle.rvs_choice.specs.declared.solved.Solved.{Solved}
 use Rattle.rvs_solver.proofs.Search.{Each}
 use Rattle.rvs_solver.proofs.Operands.{all_from_each}
 use Rattle.rvs_test_text.specs.declared.statement.Statement.{Statement}

@@ -1,6 +1,6 @@
 -- The cases of a label's test hit the points that it claims.
-use Rattle.std.proofs.Common.{◌≡◌, ℕ, zero, suc, ◌+◌, ◌*◌, ◌<◌, Bool, true, false, cond, not, ◌&&◌}
-use Rattle.std.proofs.Common.{◌||◌, List, [], ◌∷◌, ◌++◌, length, map, Option, Some, None, refl, sym}
+use Rattle.std.proofs.Common.{◌≡◌, ℕ, zero, suc, ◌+◌, ◌*◌, ◌<◌, Bool, true, false, cond, not}
+use Rattle.std.proofs.Common.{List, [], ◌∷◌, ◌++◌, length, map, Option, Some, None, refl, sym}
 use Rattle.std.proofs.Common.{ap, ◌∙◌, subst, arith}
 use Rattle.std.specs.Prelude.{ℤ, filter, find, flat_map, is_some, option_map, option_and_then}
 use Rattle.std.specs.Prelude.{option_to_list, slice_get, All, Contains}
@@ -23,13 +23,13 @@ use Rattle.rvs_expr.proofs.Meanings.{truth-more}
 use Rattle.rvs_facts.specs.Facts.{facts_of}
 use Rattle.rvs_facts.specs.Mnemonics.{number, is_same}
 use Rattle.rvs_cross.specs.Cross.{Place}
-use Rattle.rvs_cross.specs.Sequences.{first_sequence}
-use Rattle.rvs_cross.specs.Sequences as cross
-use Rattle.rvs_cross.proofs.Solved.{sequence_solves, nothing_solves}
+use Rattle.rvs_sequences.specs.Sequences.{first_sequence}
+use Rattle.rvs_sequences.specs.Sequences as cross
+use Rattle.rvs_sequences.proofs.Solved.{sequence_solves, nothing_solves}
 use Rattle.rvs_points.specs.declared.group.Kind.{Kind}
 use Rattle.rvs_points.specs.Points as groups
 use Rattle.rvs_points.specs.Points.{Meaning, op_is, reg_is, regs, nums, window, Label}
-use Rattle.rvs_points.specs.Hits.{is_register, field_of, is_meant, has_op}
+use Rattle.rvs_points.specs.Hits.{field_of, is_meant, has_op}
 use Rattle.rvs_points.specs.Hits as points
 use Rattle.rvs_points.specs.Valid.{IsValid}
 use Rattle.rvs_solver.specs.Choices.{ChoiceValue, choice_of, fields_of, table_of, is_kept}
@@ -39,8 +39,8 @@ use Rattle.rvs_solver.specs.Point.{hits, constants_of}
 use Rattle.rvs_solver.specs.First.{all_choices, first_choice, Solvable}
 use Rattle.rvs_solver.specs.Solving.{IsSingle, first_meant, first_of_point, first_at, IsSolvableAs}
 use Rattle.rvs_solver.specs.Solving.{IsSolvableAt}
-use Rattle.rvs_solver.specs.declared.solved.Solved.{Solved}
-use Rattle.rvs_solver.specs.declared.solved.Solved.TheVariants.{One, Many}
+use Rattle.rvs_choice.specs.declared.solved.Solved.{Solved}
+use Rattle.rvs_choice.specs.declared.solved.Solved.TheVariants.{One, Many}
 use Rattle.rvs_solver.proofs.Search.{Each}
 use Rattle.rvs_solver.proofs.Product.{each_append, each_flat, each_map, each_any}
 use Rattle.rvs_solver.proofs.Operands.{all_from_each, each_then}

@@ -2,7 +2,7 @@
 use Rattle.std.proofs.Common.{◌≡◌, ℕ, ◌+◌, ◌^◌, ◌<◌, true, false, cond, List, [], ◌∷◌, ◌++◌, length}
 use Rattle.std.proofs.Common.{Option, Some, None, refl, sym, ap, ◌∙◌, arith, append-nil}
 use Rattle.std.specs.Prelude.{◌==◌, map, option_map, option_and_then}
-use Rattle.std.specs.List.{filter_map, list_all}
+use Rattle.std.specs.List.{filter_map}
 use Rattle.std.specs.Fmt.{decimal}
 use Rattle.std.proofs.lemmas.Bool.Decides.{nat_tests}
 use Rattle.std.proofs.lemmas.List.Elements.{filter_map-append}
@@ -11,17 +11,13 @@ use Rattle.rvs_insn.specs.Memory.{HasRoom}
 use Rattle.rvs_base.specs.Digits.{digits_of}
 use Rattle.rvs_base.specs.Lines.{before, after}
 use Rattle.rvs_base.proofs.Readings.{digits_of-decimal}
-use Rattle.rvs_points.specs.Kinds.{kind_name}
 use Rattle.rvs_points.specs.Points as groups
 use Rattle.rvs_points.specs.Points.{Label}
 use Rattle.rvs_points.specs.Valid.{IsValid}
-use Rattle.rvs_points.specs.declared.group.Kind.{Kind}
-use Rattle.rvs_solver.specs.declared.solved.Solved.{Solved}
+use Rattle.rvs_choice.specs.declared.solved.Solved.{Solved}
 use Rattle.rvs_test_text.specs.declared.claim.Claim.{Claim}
-use Rattle.rvs_test_text.specs.declared.statement.Name.{Name}
-use Rattle.rvs_test_text.specs.declared.statement.Fixed.{Fixed}
 use Rattle.rvs_test_text.specs.declared.statement.Statement.{Statement}
-use Rattle.rvs_test_text.specs.Statements.{name_of, written, fixed_text, printed}
+use Rattle.rvs_test_text.specs.Statements.{printed}
 use Rattle.rvs_test_text.specs.TestText.{Point, claim_lines, header, step_limit, test_text}
 use Rattle.rvs_test_text.specs.TestText.{last_register}
 use Rattle.rvs_test.specs.Made.{places, solved_among, numbered, claims_of, cases_of, named_or_none}

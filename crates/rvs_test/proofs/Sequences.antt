@@ -12,11 +12,11 @@ use Rattle.rvs_insn.specs.Fields.{Fields}
 use Rattle.rvs_insn.specs.Word.{AreOf, IsEncodable}
 use Rattle.rvs_cross.specs.Cross.{Place}
 use Rattle.rvs_cross.specs.Parse as crosses
-use Rattle.rvs_cross.specs.Sequences.{middle_registers, middle, at_rs1, at_rd, over_registers}
-use Rattle.rvs_cross.specs.Sequences.{in_format, insns_of, first_sequence}
-use Rattle.rvs_cross.specs.Sequences as cross
+use Rattle.rvs_sequences.specs.Sequences.{middle, at_rs1, at_rd, over_registers}
+use Rattle.rvs_sequences.specs.Sequences.{in_format, insns_of, first_sequence}
+use Rattle.rvs_sequences.specs.Sequences as cross
 use Rattle.rvs_cross.proofs.Few.{read_places}
-use Rattle.rvs_cross.proofs.Solved.{sequence_solves}
+use Rattle.rvs_sequences.proofs.Solved.{sequence_solves}
 use Rattle.rvs_points.specs.Points.{window, means, says, Point}
 use Rattle.rvs_points.specs.Valid.{IsMeant}
 use Rattle.rvs_points.specs.declared.group.Kind.{Kind}

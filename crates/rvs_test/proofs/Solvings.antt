@@ -13,19 +13,19 @@ use Rattle.rvs_insn.specs.Memory.{HasRoom}
 use Rattle.rvs_insn.specs.Isa.{Isa}
 use Rattle.rvs_insn.specs.Fields.{Fields}
 use Rattle.rvs_cross.specs.Cross.{Place}
-use Rattle.rvs_cross.specs.Sequences.{first_sequence}
+use Rattle.rvs_sequences.specs.Sequences.{first_sequence}
 use Rattle.rvs_asm_text.specs.Text.{is_text_byte}
 use Rattle.rvs_points.specs.Keys.{is_name_byte, is_label_name}
 use Rattle.rvs_points.specs.Kinds.{kind_name}
 use Rattle.rvs_points.specs.Valid.{IsMeant, IsValid}
 use Rattle.rvs_points.specs.declared.group.Kind.{Kind}
 use Rattle.rvs_points.specs.Points as groups
-use Rattle.rvs_points.specs.Points.{Meaning, op_is, reg_is, regs, nums, window, Label}
+use Rattle.rvs_points.specs.Points.{Meaning, window, Label}
 use Rattle.rvs_solver.specs.Choices.{ChoiceValue}
 use Rattle.rvs_solver.specs.First.{first_choice}
-use Rattle.rvs_solver.specs.Solving.{IsSingle, first_meant, first_of_point, first_at}
-use Rattle.rvs_solver.specs.declared.solved.Solved.{Solved}
-use Rattle.rvs_solver.specs.declared.solved.Solved.TheVariants.{One, Many}
+use Rattle.rvs_solver.specs.Solving.{IsSingle, first_of_point, first_at}
+use Rattle.rvs_choice.specs.declared.solved.Solved.{Solved}
+use Rattle.rvs_choice.specs.declared.solved.Solved.TheVariants.{One, Many}
 use Rattle.rvs_test_text.specs.declared.claim.Claim.{Claim}
 use Rattle.rvs_test_text.specs.TestText.{Point, claim_lines, line_of_claim}
 use Rattle.rvs_test_text.specs.Claim.{IsReady, AreReady, ArePrintable}

@@ -3,7 +3,7 @@ use Rattle.std.specs.Prelude.{ℕ, List, [], ◌∷◌, ◌++◌, length, Option
 use Rattle.std.specs.List.{range_with_len}
 use Rattle.rvs_insn.specs.Isa.{Isa}
 use Rattle.rvs_points.specs.Points.{Label}
-use Rattle.rvs_solver.specs.declared.solved.Solved.{Solved}
+use Rattle.rvs_choice.specs.declared.solved.Solved.{Solved}
 use Rattle.rvs_test_text.specs.declared.claim.Claim.{Claim}
 use Rattle.rvs_test.specs.declared.finding.Found.{Found}
 use Rattle.rvs_test.specs.Made.{solved_among, unsolved_among, cases_among, numbered}

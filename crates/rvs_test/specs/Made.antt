@@ -6,7 +6,7 @@ use Rattle.rvs_insn.specs.Isa.{Isa}
 use Rattle.rvs_points.specs.Kinds.{kind_name}
 use Rattle.rvs_points.specs.Points as groups
 use Rattle.rvs_points.specs.Points.{Label}
-use Rattle.rvs_solver.specs.declared.solved.Solved.{Solved}
+use Rattle.rvs_choice.specs.declared.solved.Solved.{Solved}
 use Rattle.rvs_solver.specs.Solving.{first_at}
 use Rattle.rvs_test_text.specs.declared.claim.Claim.{Claim}
 use Rattle.rvs_test_text.specs.Claim.{fits_regions}

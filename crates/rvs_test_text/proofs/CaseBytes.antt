@@ -1,7 +1,7 @@
 -- The bytes of a case.
 use Rattle.std.proofs.Common.{◌≡◌, ℕ, ◌+◌, ◌%◌, ◌≤◌, List, ◌∷◌, ◌++◌, Option, refl}
 use Rattle.std.proofs.Common.{arith}
-use Rattle.std.specs.Prelude.{ℤ, pos, unwrap_or}
+use Rattle.std.specs.Prelude.{pos, unwrap_or}
 use Rattle.rvs_insn.specs.declared.op.Format.{Format}
 use Rattle.rvs_insn.specs.declared.op.Format.TheVariants.{JumpReg, Store, Branch, Jump, Amo}
 use Rattle.rvs_insn.specs.declared.op.Format.TheVariants.{LoadReserved}
@@ -9,12 +9,12 @@ use Rattle.rvs_insn.specs.declared.op.Op.{Op}
 use Rattle.rvs_insn.specs.Isa.{Isa}
 use Rattle.rvs_insn.specs.Table.{row}
 use Rattle.rvs_insn.specs.Word.{IsEncodable}
-use Rattle.rvs_solver.specs.Choices.{ChoiceValue, fields_of}
+use Rattle.rvs_choice.specs.Choice.{ChoiceValue, fields_of}
 use Rattle.rvs_test_text.specs.declared.statement.Name.TheVariants.{Case as CaseName, Scratch}
 use Rattle.rvs_test_text.specs.declared.statement.Statement.{Statement}
 use Rattle.rvs_test_text.specs.declared.statement.Statement.TheVariants.{Label, Plain}
-use Rattle.rvs_test_text.specs.Sound.{IsNearby, Accesses}
-use Rattle.rvs_test_text.specs.TestText.{pointer, marker, save, store_case, jump_case}
+use Rattle.rvs_test_text.specs.Sound.{Accesses}
+use Rattle.rvs_test_text.specs.TestText.{pointer, marker, save, jump_case}
 use Rattle.rvs_test_text.specs.TestText.{copy_word, case_by, choice_statements}
 use Rattle.rvs_test_text.specs.TestText.{get_word, reserve, atomic_case}
 use Rattle.rvs_test_text.specs.TestText.{bytes_all}
@@ -23,7 +23,7 @@ use Rattle.rvs_test_text.proofs.AtomicRuns.{atomic_lead}
 use Rattle.rvs_test_text.proofs.Shapes.{lead, source_size}
 use Rattle.rvs_test_text.proofs.JumpNames.{frame_size, frame_bytes}
 use Rattle.rvs_test_text.proofs.PlainCases.{source_bytes}
-use Rattle.rvs_test_text.proofs.CaseParts.{IsMade, StoreRegisters, imm_of, sources}
+use Rattle.rvs_test_text.proofs.CaseParts.{IsMade, imm_of, sources}
 use Rattle.rvs_test_text.proofs.CaseParts.{frame_lead}
 
 abbrev pub size_by : Format → ChoiceValue → ℕ

@@ -6,11 +6,11 @@ use Rattle.rvs_insn.specs.declared.op.Format.{Format}
 use Rattle.rvs_insn.specs.declared.op.Format.TheVariants.{Branch, Jump}
 use Rattle.rvs_insn.specs.Isa.{Isa}
 use Rattle.rvs_insn.specs.Table.{row}
-use Rattle.rvs_insn.specs.Word.{AreOf, IsEncodable}
+use Rattle.rvs_insn.specs.Word.{IsEncodable}
 use Rattle.rvs_machine.specs.Effects.{add32}
 use Rattle.rvs_machine.specs.Machine.{Setup, imm_word}
 use Rattle.rvs_asm.specs.Bytes.{distance, with_imm}
-use Rattle.rvs_solver.specs.Choices.{ChoiceValue, fields_of}
+use Rattle.rvs_choice.specs.Choice.{ChoiceValue, fields_of}
 use Rattle.rvs_test_text.specs.declared.statement.Name.{Name}
 use Rattle.rvs_test_text.specs.declared.statement.Name.TheVariants.{Target, Slot}
 use Rattle.rvs_test_text.specs.Sound.{IsNearby}
@@ -30,7 +30,6 @@ use Rattle.rvs_test_text.proofs.JumpGood.{forward_good, backward_good, back_leng
 use Rattle.rvs_test_text.proofs.JumpNames.{forward_made, backward_made, frame_size}
 use Rattle.rvs_test_text.proofs.JumpCases.{IsLabelled}
 use Rattle.rvs_test_text.proofs.Assembled.{made_all}
-use Rattle.rvs_test_text.proofs.AtomicParts.{has}
 use Rattle.rvs_test_text.proofs.Helpers.{pointer_free}
 use Rattle.rvs_test_text.proofs.PlainCases.{source_made}
 use Rattle.rvs_test_text.proofs.Registers.{registers_of}

@@ -1,6 +1,6 @@
 -- What the statements of a case of any kind mark, and that no name is marked twice.
-use Rattle.std.proofs.Common.{◌≡◌, ℕ, ◌+◌, ◌^◌, ◌<◌, ◌≤◌, [], true, List, ◌∷◌, ◌++◌, refl}
-use Rattle.std.proofs.Common.{ap, ◌∙◌, arith, rules}
+use Rattle.std.proofs.Common.{◌≡◌, ℕ, ◌+◌, ◌^◌, ◌<◌, ◌≤◌, [], List, ◌∷◌, ◌++◌, refl}
+use Rattle.std.proofs.Common.{arith, rules}
 use Rattle.std.specs.Prelude.{pos, unwrap_or}
 use Rattle.rvs_insn.specs.Memory.{Memory}
 use Rattle.rvs_insn.specs.declared.op.Format.{Format}
@@ -12,7 +12,7 @@ use Rattle.rvs_insn.specs.Table.{row}
 use Rattle.rvs_insn.specs.Word.{IsEncodable}
 use Rattle.rvs_asm.specs.declared.location.Location.{Location}
 use Rattle.rvs_asm.specs.Locations.{next}
-use Rattle.rvs_solver.specs.Choices.{ChoiceValue, fields_of}
+use Rattle.rvs_choice.specs.Choice.{ChoiceValue, fields_of}
 use Rattle.rvs_test_text.specs.declared.statement.Name.{Name}
 use Rattle.rvs_test_text.specs.declared.statement.Name.TheVariants.{Case as CaseName, Target, Done}
 use Rattle.rvs_test_text.specs.declared.statement.Name.TheVariants.{Scratch}
@@ -22,17 +22,14 @@ use Rattle.rvs_test_text.specs.Statements.{line_of}
 use Rattle.rvs_test_text.specs.TestText.{sw, source, pointer, marker, save, store_case, jalr_case}
 use Rattle.rvs_test_text.specs.TestText.{jump_case, unlinked, frame, case_by, choice_statements}
 use Rattle.rvs_test_text.specs.TestText.{reserve, atomic_case}
-use Rattle.rvs_test_text.proofs.AtomicParts.{reserve_size}
-use Rattle.rvs_test_text.proofs.AtomicRuns.{atomic_lead}
-use Rattle.rvs_test_text.proofs.Shapes.{source_size}
-use Rattle.rvs_test_text.proofs.JumpNames.{frame_marks, frame_marks_are, frame_distinct}
+use Rattle.rvs_test_text.proofs.JumpNames.{frame_distinct}
 use Rattle.rvs_test_text.proofs.Tables.{Marks, AllBelow, Lacks, stage, below_join, lacks_later}
 use Rattle.rvs_test_text.proofs.Tables.{lacks_join}
 use Rattle.rvs_test_text.proofs.Passes.{marks, Distinct}
 use Rattle.rvs_test_text.proofs.Assembled.{text_at}
-use Rattle.rvs_test_text.proofs.PlainCases.{plain_distinct, source_marks}
+use Rattle.rvs_test_text.proofs.PlainCases.{plain_distinct}
 use Rattle.rvs_test_text.proofs.PlainCases.{source_distinct}
-use Rattle.rvs_test_text.proofs.CaseParts.{IsMade, StoreRegisters, imm_of}
+use Rattle.rvs_test_text.proofs.CaseParts.{IsMade, imm_of}
 use Rattle.rvs_test_text.proofs.CaseBytes.{store_tail, atomic_tail, atomic_rest}
 use Rattle.rvs_test_text.proofs.CaseNames.{own_by, own_marks}
 

@@ -1,6 +1,6 @@
 -- What a case of any kind runs, and what its statements make.
 use Rattle.std.proofs.lemmas.Bool.Decides.{nat_tests}
-use Rattle.std.proofs.Common.{◌≡◌, ℕ, ◌+◌, ◌*◌, ◌%◌, ◌^◌, ◌≤◌, Bool, true, List, ◌++◌}
+use Rattle.std.proofs.Common.{◌≡◌, ℕ, ◌+◌, ◌*◌, ◌%◌, ◌^◌, ◌≤◌, Bool, true, List}
 use Rattle.std.proofs.Common.{length, Option, Some, None, arith, ◌⊎◌}
 use Rattle.std.specs.Prelude.{ℤ, pos, negsuc, unwrap_or}
 use Rattle.rvs_insn.specs.Memory.{Memory, HasRoom, text_limit}
@@ -13,18 +13,16 @@ use Rattle.rvs_insn.specs.Table.{row}
 use Rattle.rvs_machine.specs.Machine.{Setup}
 use Rattle.rvs_machine.proofs.Loads.{IsAligned}
 use Rattle.rvs_machine.proofs.Stores.{store_size}
-use Rattle.rvs_solver.specs.Choices.{ChoiceValue, fields_of}
+use Rattle.rvs_choice.specs.Choice.{ChoiceValue, fields_of}
 use Rattle.rvs_test_text.specs.declared.statement.Name.{Name}
 use Rattle.rvs_test_text.specs.declared.statement.Name.TheVariants.{Slot, Scratch}
 use Rattle.rvs_test_text.specs.Sound.{access_size}
 use Rattle.rvs_test_text.specs.TestText.{pointer, marker, store_case, between}
-use Rattle.rvs_test_text.specs.TestText.{reserve, atomic_case}
+use Rattle.rvs_test_text.specs.TestText.{atomic_case}
 use Rattle.rvs_test_text.proofs.Short.{IsShort}
 use Rattle.rvs_test_text.proofs.Cases.{Case}
 use Rattle.rvs_test_text.proofs.Shapes.{source_size}
 use Rattle.rvs_test_text.specs.Claim.{is_taken, filled_word}
-use Rattle.rvs_test_text.specs.declared.statement.Statement.{Statement}
-use Rattle.rvs_test_text.proofs.AtomicParts.{reserve as reserve_code, reserve_size}
 use Rattle.rvs_test_text.proofs.AtomicRuns.{atomic_code}
 use Rattle.rvs_test_text.proofs.AtomicGood.{atomic_of}
 use Rattle.rvs_test_text.proofs.CaseParts.{AtomicRegisters, StoreRegisters, imm_of}

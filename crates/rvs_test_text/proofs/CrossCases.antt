@@ -1,11 +1,10 @@
 -- A case of a cross point: its lines, their symbols, their instructions, and what it does.
 use Rattle.std.proofs.lemmas.Bool.Decides.{nat_tests}
-use Rattle.std.proofs.Common.{None, ◌≡◌, ℕ, zero, suc, ◌+◌, ◌*◌, ◌^◌, ◌<◌, ◌≤◌, true, List}
+use Rattle.std.proofs.Common.{◌≡◌, ℕ, zero, suc, ◌+◌, ◌*◌, ◌^◌, ◌<◌, ◌≤◌, true, List}
 use Rattle.std.proofs.Common.{[], ◌∷◌, ◌++◌, length, Some, refl, sym, ap, ◌∙◌, arith, subst}
 use Rattle.std.proofs.Common.{append-nil}
-use Rattle.std.specs.Prelude.{pos, map}
+use Rattle.std.specs.Prelude.{map}
 use Rattle.rvs_insn.specs.Memory.{Memory}
-use Rattle.rvs_insn.specs.declared.op.Op.TheVariants.{Add}
 use Rattle.rvs_insn.specs.declared.op.Format.{Format}
 use Rattle.rvs_insn.specs.Isa.{Isa}
 use Rattle.rvs_insn.specs.Fields.{Fields}
@@ -19,7 +18,7 @@ use Rattle.rvs_test_text.specs.declared.statement.Statement.{Statement}
 use Rattle.rvs_test_text.specs.declared.statement.Statement.TheVariants.{Label, Plain}
 use Rattle.rvs_test_text.specs.Sound.{computes, AllComputing, IsSequence}
 use Rattle.rvs_test_text.specs.Claim.{insns_of}
-use Rattle.rvs_test_text.specs.Statements.{line_of, addi}
+use Rattle.rvs_test_text.specs.Statements.{line_of}
 use Rattle.rvs_test_text.specs.TestText.{save, start_word, load_words, plains, first_rd, last_rd}
 use Rattle.rvs_test_text.specs.TestText.{cross_case}
 use Rattle.rvs_test_text.specs.TestText.{bytes_all}
@@ -31,7 +30,7 @@ use Rattle.rvs_test_text.proofs.Passes.{AllFine, fine_join, marks, Distinct, All
 use Rattle.rvs_test_text.proofs.Assembled.{made_all, text_at}
 use Rattle.rvs_test_text.proofs.PlainCases.{source_distinct, source_linked}
 use Rattle.rvs_test_text.proofs.PlainCases.{source_bytes, fine_save}
-use Rattle.rvs_test_text.proofs.Registers.{Has, has_low, admitted_low}
+use Rattle.rvs_test_text.proofs.Registers.{has_low}
 use Rattle.rvs_test_text.proofs.CaseRuns.{IsPlaced}
 use Rattle.rvs_test_text.proofs.Window.{Words, entries, entry_in, words_behind, words_code}
 use Rattle.rvs_test_text.proofs.CrossGood.{rd_middle, last_middle, cross_code, cross_of, cross_good}

@@ -1,6 +1,6 @@
 -- Printed numbers and registers are words, and are read as what they print.
-use Rattle.std.proofs.Common.{◌≡◌, ℕ, zero, suc, ◌+◌, ◌/◌, ◌%◌, ◌^◌, ◌<◌, ◌≤◌, Bool, true, false}
-use Rattle.std.proofs.Common.{cond, ◌&&◌, List, [], ◌∷◌, ◌++◌, Some, None, get_or, refl, ap, ◌∙◌}
+use Rattle.std.proofs.Common.{◌≡◌, ℕ, zero, suc, ◌+◌, ◌/◌, ◌%◌, ◌^◌, ◌<◌, ◌≤◌, true, false}
+use Rattle.std.proofs.Common.{cond, List, [], ◌∷◌, ◌++◌, Some, None, get_or, refl, ap, ◌∙◌}
 use Rattle.std.proofs.Common.{arith, rules}
 use Rattle.std.specs.Prelude.{◌==◌, ℤ, pos, negsuc, option_and_then}
 use Rattle.std.specs.Option.{option_map, option_or}

@@ -5,9 +5,9 @@ use Rattle.std.proofs.lemmas.Bool.Decides.{nat_tests}
 use Rattle.std.specs.Prelude.{◌&&◌, nat_le, nat_lt}
 use Rattle.rvs_insn.specs.Memory.{Memory, usual_memory, text_limit, data_limit}
 use Rattle.rvs_insn.specs.Isa.{Isa}
-use Rattle.rvs_points.specs.Limits.{most_points}
-use Rattle.rvs_solver.specs.declared.solved.Solved.{Solved}
-use Rattle.rvs_solver.specs.declared.solved.Solved.TheVariants.{One, Many}
+use Rattle.rvs_test_text.specs.Claim.{most_cases}
+use Rattle.rvs_choice.specs.declared.solved.Solved.{Solved}
+use Rattle.rvs_choice.specs.declared.solved.Solved.TheVariants.{One, Many}
 use Rattle.rvs_test_text.specs.TestText.{code_part, bytes_all}
 use Rattle.rvs_test_text.specs.Claim.{AreReady, FitsRegions, fits_regions}
 use Rattle.rvs_test_text.proofs.CaseList.{AllMade, size_of_all, sizes_low}
@@ -56,5 +56,5 @@ fits_at : (isa : Isa) (m : Memory) (cs : List Solved) → usual_memory ≡ m
 fits_at isa m cs e text few = grind (arith, length)
 
 pub usual_fits : (isa : Isa) (cs : List Solved) → isa.memory ≡ usual_memory
-    → length cs ≤ most_points → AreReady isa cs → FitsRegions isa cs
+    → length cs ≤ most_cases → AreReady isa cs → FitsRegions isa cs
 usual_fits isa cs e few h = grind (arith, length, code_is_short, fits_at)

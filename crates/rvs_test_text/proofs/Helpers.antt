@@ -1,10 +1,10 @@
 -- A register that isn't an operand.
-use Rattle.std.proofs.Common.{◌≡◌, ◌≢◌, ℕ, ◌<◌, Bool, true, false, cond, ◌||◌, not, [], ◌∷◌, Some}
+use Rattle.std.proofs.Common.{◌≡◌, ◌≢◌, ℕ, ◌<◌, Bool, false, cond, ◌||◌, not, [], ◌∷◌, Some}
 use Rattle.std.proofs.Common.{arith, rules}
 use Rattle.std.specs.Prelude.{◌==◌, unwrap_or}
 use Rattle.std.specs.List.{find}
 use Rattle.std.proofs.lemmas.Bool.Decides.{nat_tests}
-use Rattle.rvs_solver.specs.Choices.{ChoiceValue}
+use Rattle.rvs_choice.specs.Choice.{ChoiceValue}
 use Rattle.rvs_test_text.specs.TestText.{pointer}
 
 -- what holds of it

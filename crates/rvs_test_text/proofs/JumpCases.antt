@@ -20,7 +20,7 @@ use Rattle.rvs_test_text.specs.declared.statement.Name.TheVariants.{Slot}
 use Rattle.rvs_test_text.specs.declared.statement.Statement.{Statement}
 use Rattle.rvs_test_text.specs.declared.statement.Statement.TheVariants.{Label, To}
 use Rattle.rvs_test_text.specs.Sound.{IsNearby}
-use Rattle.rvs_test_text.specs.TestText.{jal, save, between, filler, skip, back_body, frame}
+use Rattle.rvs_test_text.specs.TestText.{jal, save, between, back_body, frame}
 use Rattle.rvs_test_text.proofs.KindLaws.{LinkedFormat}
 use Rattle.rvs_test_text.proofs.Tables.{Marks, find_name}
 use Rattle.rvs_test_text.proofs.Passes.{AllFine}

@@ -18,7 +18,7 @@ use Rattle.rvs_test_text.proofs.Tables.{Marks, Lacks, lacks_join}
 use Rattle.rvs_test_text.proofs.Passes.{own_marks, marks}
 use Rattle.rvs_test_text.proofs.Passes.{after, Distinct, distinct_join}
 use Rattle.rvs_test_text.proofs.Assembled.{made_all, made_join}
-use Rattle.rvs_test_text.proofs.Assembled.{text_at, nops}
+use Rattle.rvs_test_text.proofs.Assembled.{text_at}
 use Rattle.rvs_test_text.proofs.Frames.{skip_code, back_code, to_place}
 use Rattle.rvs_test_text.proofs.Shapes.{save as save_code}
 
@@ -72,10 +72,6 @@ frame_marks memory (negsuc n) k s =
     )
     ∷ (Done k, record { at = memory.text_base + (s + 16 + 4 * between (negsuc n)); in_text = true })
     ∷ []
-
-pub frame_marks_are : (memory : Memory) (z : ℤ) (k m p d : ℕ) (j : Fields) (s r : ℕ)
-    → marks (frame z k m j (save p k m d)) (text_at memory s r) ≡ frame_marks memory z k s
-frame_marks_are memory z k m p d j s r = grind arith
 
 -- ---- instructions
 

@@ -9,7 +9,7 @@ use Rattle.std.specs.Fmt.{decimal}
 use Rattle.std.proofs.lemmas.Fmt.{decimal_by_steps}
 use Rattle.rvs_insn.specs.Memory.{Memory, text_limit}
 use Rattle.rvs_insn.specs.Isa.{Isa}
-use Rattle.rvs_points.specs.Limits.{most_points}
+use Rattle.rvs_test_text.specs.Claim.{most_cases}
 use Rattle.rvs_insn.proofs.Regions.{regions_end}
 use Rattle.rvs_asm_text.specs.Text.{lines_of, is_text_byte}
 use Rattle.rvs_base.specs.Digits.{digits_of}
@@ -20,8 +20,8 @@ use Rattle.rvs_asm.specs.Locations.{Reading, readings, start, labels}
 use Rattle.rvs_asm.specs.Bytes.{section}
 use Rattle.rvs_asm.specs.Faults.{first_fault, second_fault, first_missing, needed, is_missing}
 use Rattle.rvs_asm.specs.Answer.{text_readings, image_of, Assembles}
-use Rattle.rvs_solver.specs.declared.solved.Solved.{Solved}
-use Rattle.rvs_solver.specs.declared.solved.Solved.TheVariants.{One, Many}
+use Rattle.rvs_choice.specs.declared.solved.Solved.{Solved}
+use Rattle.rvs_choice.specs.declared.solved.Solved.TheVariants.{One, Many}
 use Rattle.rvs_test_text.specs.declared.statement.Name.TheVariants.{ToHost, BeginSignature}
 use Rattle.rvs_test_text.specs.declared.statement.Name.TheVariants.{EndSignature}
 use Rattle.rvs_test_text.specs.Statements.{printed}
@@ -150,7 +150,7 @@ steps_high isa (One c ∷ cs) h = grind (arith, (steps_high isa cs h.1))
 -- the text is cut into the lines of its header and of its statements, whether there is room for it
 -- or not
 pub text_cut : (isa : Isa) (label : List ℕ) (points : List Point) (cs : List Solved)
-    → length cs ≤ most_points → length points ≡ length cs → list_all is_text_byte label ≡ true
+    → length cs ≤ most_cases → length points ≡ length cs → list_all is_text_byte label ≡ true
     → ArePrintable points → AreReady isa cs
     → lines_of (test_text label isa points cs)
     ≡ header label isa (step_limit cs) points ++ map printed (whole (last_register isa) cs)

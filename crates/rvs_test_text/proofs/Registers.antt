@@ -1,10 +1,8 @@
 -- The registers that a core has, and that a test's own instructions over them are of that core.
 use Rattle.std.proofs.Common.{◌≡◌, ℕ, ◌<◌, Bool, true, Option, Some, None, refl}
 use Rattle.std.proofs.Common.{◌≤◌, arith}
-use Rattle.std.proofs.lemmas.Bool.Decides.{nat_tests}
-use Rattle.std.specs.Prelude.{nat_lt, ◌&&◌, ◌||◌, not, ℤ, unwrap_or}
+use Rattle.std.specs.Prelude.{◌&&◌, ◌||◌, not, ℤ, unwrap_or}
 use Rattle.rvs_insn.specs.declared.op.Op.{Op}
-use Rattle.rvs_insn.specs.declared.op.Op.TheVariants.{ScW}
 use Rattle.rvs_insn.specs.declared.op.Format.{Format}
 use Rattle.rvs_insn.specs.Isa.{Isa}
 use Rattle.rvs_insn.specs.Table.{row}
@@ -12,7 +10,7 @@ use Rattle.rvs_insn.specs.Fields.{Fields, IsRegister}
 use Rattle.rvs_insn.specs.Word.{AreOf, IsEncodable}
 use Rattle.rvs_insn.specs.Names.{is_admitted, is_admitted_op, is_m, is_a, is_low_register}
 use Rattle.rvs_test_text.specs.Statements.{lui, addi}
-use Rattle.rvs_test_text.specs.TestText.{sw, lw, lr, jal}
+use Rattle.rvs_test_text.specs.TestText.{sw, lw, jal}
 use Rattle.rvs_test_text.proofs.Chars.{both}
 
 -- one of the 32, and under the base E one of the first 16

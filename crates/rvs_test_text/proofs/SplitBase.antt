@@ -1,11 +1,11 @@
 -- The base of jalr in two parts.
-use Rattle.std.proofs.Common.{◌≡◌, ℕ, ◌+◌, ◌%◌, ◌^◌, ◌-◌, ◌<◌, ◌≤◌}
+use Rattle.std.proofs.Common.{◌≡◌, ℕ, ◌^◌, ◌<◌}
 use Rattle.std.proofs.Common.{arith}
 use Rattle.std.specs.Prelude.{ℤ}
 use Rattle.std.specs.Int.{w32, cast_unsigned}
 use Rattle.rvs_insn.specs.Word.{FitsBits}
 use Rattle.rvs_machine.specs.Effects.{add32}
-use Rattle.rvs_test_text.specs.TestText.{minus, first_part, second_part}
+use Rattle.rvs_test_text.specs.TestText.{first_part, second_part}
 
 -- the base that is set by both is the target less the immediate
 pub split_base : (t : ℕ) (z : ℤ) → t < 2 ^ 32 → FitsBits 12 z

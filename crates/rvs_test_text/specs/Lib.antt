@@ -2,3 +2,4 @@ pub mod Statements
 pub mod TestText
 pub mod Sound
 pub mod Claim
+pub mod Claims

@@ -6,6 +6,6 @@ mod claim;
 mod laws;
 mod statement;
 
-pub use claim::Claim;
+pub use claim::{Claim, case_at, claims_after};
 pub use laws::tests_run;
 pub use statement::{Fixed, Name, Statement};

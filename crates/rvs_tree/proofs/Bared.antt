@@ -82,9 +82,6 @@ trees-step w ws = trees-by w.merges w.value.tree (merged_trees ws)
 and-parts : (a b : Bool) → (a && b) ≡ true → (a ≡ true) × (b ≡ true)
 and-parts a b h = grind arith
 
-and-with : (a b : Bool) → a ≡ true → b ≡ true → (a && b) ≡ true
-and-with a b h k = grind arith
-
 maps-by : (m : Bool) (d : Data) (ds : List Data) → are_maps_or_empty (items_of (cond m (d ∷ ds) ds))
     ≡ true → (are_maps_or_empty (items_of (cond m (d ∷ []) [])) ≡ true)
     × (are_maps_or_empty (items_of ds) ≡ true)

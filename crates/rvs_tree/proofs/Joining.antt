@@ -15,9 +15,6 @@ pub moved : (b s f : Bool) → (b ≡ true → f ≡ true) → (cond b true s ||
     → (s || f) ≡ true
 moved b s f h e = grind arith
 
-pub or-turned : (a b : Bool) → (a || b) ≡ true → (b || a) ≡ true
-or-turned a b e = grind arith
-
 -- the keys of what a map of these entries brings
 pub map-keys : (line : ℕ) (ws : List Written) (k : List ℕ)
     → has_key k (keys_of (merged_pairs (map_value line ws).tree))

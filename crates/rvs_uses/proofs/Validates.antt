@@ -1,5 +1,5 @@
 -- What every call of `validate` promises, in the words of its file.
-use Rattle.std.proofs.Common.{inl, inr, ℕ, List}
+use Rattle.std.proofs.Common.{inl, inr}
 use Rattle.rvs_base.specs.Host.{Files}
 use Rattle.rvs_suite.specs.Call.{Call}
 use Rattle.rvs_suite.specs.Validating as suite

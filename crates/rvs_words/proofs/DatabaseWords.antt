@@ -6,7 +6,7 @@ use Rattle.std.specs.Prelude.{option_and_then, unwrap_or}
 use Rattle.rvs_words.specs.Words.{pairs_of, are_known, only}
 use Rattle.rvs_text.specs.Options.{◌>>=◌}
 use Rattle.rvs_words.specs.Commands.{Values, with_options}
-use Rattle.rvs_words.specs.Commands.{run_options, run_of, run_groups_of, run_database_of, is_given}
+use Rattle.rvs_words.specs.Commands.{run_options, run_of, run_database_of, is_given}
 use Rattle.rvs_words.specs.declared.words.Pair.{Pair}
 use Rattle.rvs_words.specs.declared.command.Command.{Command}
 use Rattle.rvs_words.specs.declared.command.Command.TheVariants.{Unknown, RunDatabase}
@@ -42,12 +42,6 @@ pub run-database-of : (program : List ℕ) (values : Values) (isa database devic
       part = part;
     }))
 run-database-of program values isa database device work part a b c d e = grind arith
-
--- what a run asks for, by whether it is given group files, a database and families
-abbrev pub by-source : List ℕ → Values → Bool → Bool → Bool → Option Command
-by-source program values groups database families =
-    cond database (cond groups None (cond families None (run_database_of program values)))
-    (run_groups_of program values)
 
 -- with a database, and without group files and families, a run is over that
 by-database : (program : List ℕ) (values : Values) (command : Command)
@@ -97,17 +91,6 @@ runs_over_databases_are_read program isa database device work part kept m p fit 
 -- ---- one source
 abbrev no-command : Option Command
 no-command = None
-
-nothing-follows : {A : Type 0} (o : Option A) → (o >>= (λ a. no-command)) ≡ no-command
-nothing-follows = grind arith
-
-none-given : (values : List (List ℕ)) → is_given values ≡ false → values ≡ []
-none-given values e = grind arith
-
--- a run over group files lacks them
-no-groups : (program : List ℕ) (values : Values) → is_given (values (codes "--cgf")) ≡ false
-    → run_groups_of program values ≡ None
-no-groups program values none = grind (arith, codes, none-given, nothing-follows)
 
 both-or-none : (program : List ℕ) (values : Values) (groups databases : Bool)
     → is_given (values (codes "--cgf")) ≡ groups

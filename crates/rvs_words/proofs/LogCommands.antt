@@ -26,9 +26,6 @@ use Rattle.rvs_words.proofs.CommandWords.{others-stand, own-values}
 abbrev flag-pairs : Bool → List Pair
 flag-pairs progress = cond progress (record { name = codes "--progress"; value = [] } ∷ []) []
 
-abbrev flag-values : Bool → List (List ℕ)
-flag-values progress = cond progress ([] ∷ []) []
-
 abbrev told-pairs : Option Value → Bool → List Pair
 told-pairs families progress = pairs (codes "--families") (listed families) ++ flag-pairs progress
 

@@ -1,10 +1,10 @@
 -- The pairs that options with their values are.
-use Rattle.std.proofs.Common.{◌≡◌, ℕ, Bool, true, false, cond, List, [], ◌∷◌, ◌++◌, length, Option}
+use Rattle.std.proofs.Common.{◌≡◌, ℕ, Bool, true, false, cond, List, [], ◌∷◌, ◌++◌, length}
 use Rattle.std.proofs.Common.{Some, None, refl, sym, ap, ◌∙◌, bytes_eq, append_assoc, append-nil}
 use Rattle.std.proofs.Common.{arith}
 use Rattle.std.specs.Prelude.{◌&&◌, nat_le, map, filter}
 use Rattle.std.specs.List.{list_any, list_all}
-use Rattle.rvs_words.specs.Words.{is_positional, pair_in, with_pair, with_two_words, pairs_of}
+use Rattle.rvs_words.specs.Words.{is_positional, pair_in, pairs_of}
 use Rattle.rvs_words.specs.Words.{values_of, are_known}
 use Rattle.rvs_words.specs.declared.words.Pair.{Pair}
 use Rattle.rvs_words.specs.CommandLaws.{Value, option, options, may_stand, AllMayStand, text_of}
@@ -22,20 +22,10 @@ pair name value = record { name = name; value = value.text }
 abbrev pub pairs : List ℕ → List Value → List Pair
 pairs name values = map (pair name) values
 
--- what two words begin with, by what the first of them says alone
-abbrev first-word : List ℕ → List ℕ → List (List ℕ) → Option Pair → Option (List Pair)
-first-word word value words None = with_two_words word value (pairs_of words)
-first-word word value words (Some pair) = with_pair pair (pairs_of (value ∷ words))
-
 pub one-word : (word : List ℕ) (first : Pair) (words : List (List ℕ)) (more : List Pair)
     → pair_in word ≡ Some first
     → pairs_of words ≡ Some more → pairs_of (word ∷ words) ≡ Some (first ∷ more)
 one-word word first words more p e = grind arith
-
-two-words : (name value : List ℕ) (words : List (List ℕ)) (more : List Pair) → pair_in name ≡ None
-    → is_positional value ≡ true → pairs_of words ≡ Some more
-    → pairs_of (name ∷ value ∷ words) ≡ Some (record { name = name; value = value } ∷ more)
-two-words name value words more n p e = grind arith
 
 one-option : (name : List ℕ) → IsName name
     → (joined : Bool) (text : List ℕ) (words : List (List ℕ)) (more : List Pair)
@@ -68,10 +58,6 @@ options_read name is (value ∷ values) words more m e =
     ∙ option_read name is value (options name values ++ words) (pairs name values ++ more)
     (and-left (may_stand value) (list_all may_stand values) m) rest
 
-pub option_alone : (name : List ℕ) → IsName name → (value : Value) → may_stand value ≡ true
-    → pairs_of (option name value) ≡ Some (pair name value ∷ [])
-option_alone name is value m = grind (arith, append-nil, option_read)
-
 pub options_alone : (name : List ℕ) → IsName name → (values : List Value) → AllMayStand values
     → pairs_of (options name values) ≡ Some (pairs name values ++ [])
 options_alone name is values m =
@@ -80,10 +66,6 @@ options_alone name is values m =
 -- the values of an option, by whether the first pair is its own
 abbrev own : List ℕ → List Pair → List Pair
 own name ps = filter (λ (p : Pair). bytes_eq p.name name) ps
-
-abbrev first-value : List ℕ → Pair → List Pair → Bool → List (List ℕ)
-first-value name first more same =
-    map (λ (p : Pair). p.value) (cond same (first ∷ own name more) (own name more))
 
 -- the values of an option among its own pairs, and among those of another
 pub values_same : (name : List ℕ) → IsName name → (values : List Value) (more : List Pair)

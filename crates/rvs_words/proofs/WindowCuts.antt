@@ -58,9 +58,6 @@ both : (first second : Bool) (number : Option ℕ)
     → cond (first && second) number None ≡ cond (first && (second && true)) number None
 both first second number = grind arith
 
-one-alone : (first : Bool) (number : Option ℕ) → None ≡ cond (first && false) number None
-one-alone first number = grind arith
-
 pub address_is_prefixed : (text : List ℕ) → address_of text
     ≡ cond (bytes_eq (take 2 text) (codes "0x")) (short_number 8 16 (drop 2 text)) None
 address_is_prefixed text = grind arith

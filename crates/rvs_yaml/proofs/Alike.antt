@@ -11,7 +11,7 @@ use Rattle.rvs_yaml.specs.Anchors.{Anchors, lookup}
 use Rattle.rvs_yaml.specs.Stack.{has_anchor}
 use Rattle.rvs_yaml.specs.Flow.{FlowState}
 use Rattle.rvs_yaml.specs.Flow.{Nest, none, one, group, first_place}
-use Rattle.rvs_yaml.specs.Flow.{with_value, with_alias, with_token, may_open, ends_with, fits}
+use Rattle.rvs_yaml.specs.Flow.{with_value, with_token, may_open, ends_with, fits}
 use Rattle.rvs_yaml.specs.Flow.{collection, flow_value}
 use Rattle.rvs_yaml.specs.Block.{found, content_value, own_value}
 use Rattle.rvs_yaml.specs.Stack.{noted}

@@ -3,6 +3,8 @@ use Rattle.std.proofs.Common.{◌≡◌, ℕ, Bool, true, false, List, [], ◌�
 use Rattle.std.proofs.Common.{length, take}
 use Rattle.std.proofs.Common.{sym, ap, ◌∙◌}
 use Rattle.std.specs.Prelude.{◌||◌, ◌==◌, if◌then◌else◌, Option, Some, None}
+use Rattle.rvs_fault.specs.declared.faults.Fault.{Fault}
+use Rattle.rvs_fault.specs.declared.faults.Fault.TheVariants.{Refused}
 use Rattle.rvs_tree.specs.Value.{Value, Written, has_key, explicit_keys}
 use Rattle.rvs_tree.proofs.Sums.{has_key-append, explicit_keys-push}
 use Rattle.rvs_yaml.specs.Checks.{Checked, ◌>>=◌, ◌>>◌, check, succeeds, mapped}
@@ -68,13 +70,14 @@ keyed-not ws k column v w kind h =
     Ok (done_entries (ws ++ written k v ∷ []) q.0, q.1) in s)) h
 
 -- what gives a value fails with nothing
-pub gave : {X Y : Type 0} (r : Result X YamlKind) (m : Checked Y) (y : Y) → m ≡ Ok y
+pub gave : {X Y : Type 0} (r : Result X (Fault YamlKind)) (m : Checked Y) (y : Y) → m ≡ Ok y
     → FailsWith r m
 gave r m y e kind h = cc
 
-pub failed : {X Y : Type 0} (r : Result X YamlKind) (m : Checked Y) (k : YamlKind) → r ≡ Err k
-    → m ≡ Err k → FailsWith r m
-failed r m k is e kind h = let same : k ≡ kind = cc in is ∙ ap Err same
+pub failed : {X Y : Type 0} (r : Result X (Fault YamlKind)) (m : Checked Y) (k : YamlKind)
+    → r ≡ Err (Refused k) → m ≡ Err k → FailsWith r m
+failed r m k is e kind h =
+    let same : k ≡ kind = cc in is ∙ ap (λ (x : YamlKind). Err (Refused x)) same
 
 alias-refused : (o : Option Value) (ended : Bool) (kind : YamlKind)
     → (known_alias o >> check ended BadScalar) ≡ Err kind
@@ -163,12 +166,12 @@ placed-below all bs o w e h =
     (ap known_of (sym split) ∙ known-all all (bs ++ o ∷ []) h)
 
 -- a refusal of a part that fails wherever the whole does
-pub fails_earlier : {X Z A B : Type 0} (k : YamlKind) (m : Checked A) (t : Checked B)
+pub fails_earlier : {X Z A B : Type 0} (fault : Fault YamlKind) (m : Checked A) (t : Checked B)
     → ((kind : YamlKind) → t ≡ Err kind → m ≡ Err kind)
-    → FailsWith (let r : Result X YamlKind = Err k in r) m
-    → FailsWith (let r : Result Z YamlKind = Err k in r) t
-fails_earlier k m t f h kind bad =
-    let is = h kind (f kind bad) in let same : k ≡ kind = cc in ap Err same
+    → FailsWith (let r : Result X (Fault YamlKind) = Err fault in r) m
+    → FailsWith (let r : Result Z (Fault YamlKind) = Err fault in r) t
+fails_earlier fault m t f h kind bad =
+    let is = h kind (f kind bad) in let same : fault ≡ Refused kind = cc in ap Err same
 
 -- what a function makes of a value fails only where that does
 pub fails_before : {A B : Type 0} (m : Checked A) (f : A → B) (kind : YamlKind)

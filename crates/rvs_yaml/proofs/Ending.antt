@@ -1,31 +1,30 @@
 -- What the reader answers at its end.
-use Rattle.std.proofs.Common.{◌≡◌, ℕ, Bool, List, Option, None, Ok, Err, refl, sym, ap, subst, ◌∙◌}
+use Rattle.std.proofs.Common.{◌≡◌, ℕ, Bool, List, Option, None, Ok, Err, refl, ap, ◌∙◌}
 use Rattle.std.specs.Borrow.{Bor}
+use Rattle.rvs_fault.specs.Answers.{IfRefused}
+use Rattle.rvs_fault.specs.declared.faults.Fault.{Fault}
+use Rattle.rvs_fault.specs.declared.faults.Fault.TheVariants.{Refused, NoMemory}
 use Rattle.rvs_yaml.specs.Checks.{Checked, ◌>>=◌}
 use Rattle.rvs_tree.specs.Data.{Data}
 use Rattle.rvs_tree.specs.Value.{Value}
 use Rattle.rvs_yaml.specs.Stack.{Open}
 use Rattle.rvs_yaml.specs.Front.{front_value}
 use Rattle.rvs_yaml.specs.Parsed.{Parsed, answer}
-use Rattle.rvs_yaml.specs.Reader.{Refuses, whole}
+use Rattle.rvs_yaml.specs.Reader.{whole}
+use Rattle.rvs_yaml.specs.Refusing.{at_line, refusal_view}
 use Rattle.rvs_yaml.specs.Gives.{Fails}
 use Rattle.rvs_yaml_text.specs.declared.kind.YamlKind.{YamlKind}
-use Rattle.rvs_yaml_text.specs.declared.kind.YamlKind.TheVariants.{NoMemory}
+use Rattle.rvs_yaml.specs.declared.refusal.YamlRefusal.{YamlRefusal}
 use Rattle.rvs_yaml.proofs.Answering.{Reads, Reads-end}
 
-line_refused : {A : Type 0} (kind : YamlKind) (line n : ℕ) (a : Parsed) (m : Checked A)
-    → (m ≡ Err kind → a ≡ Err (n, kind)) → Fails kind m
-    → ((b : Parsed) → b ≡ Err (n, kind) → Refuses kind line b) → (kind ≡ NoMemory → line ≡ 0)
-    → Refuses kind line a
-line_refused NoMemory line n a m to h f memory = memory refl
-line_refused kind line n a m to h f memory = f a (to h)
-
-pub refused-line : {A : Type 0} (told kind : YamlKind) (line n : ℕ) (a : Parsed) (m : Checked A)
-    → told ≡ kind → (m ≡ Err kind → a ≡ Err (n, kind)) → Fails kind m
-    → ((b : Parsed) → b ≡ Err (n, kind) → Refuses kind line b) → (kind ≡ NoMemory → line ≡ 0)
-    → Refuses told line a
-refused-line told kind line n a m same to h f memory =
-    subst (λ k. Refuses k line a) (sym same) (line_refused kind line n a m to h f memory)
+pub refused-line : {A : Type 0} (told : Fault YamlRefusal) (fault : Fault YamlKind) (n : ℕ)
+    (a : Parsed) (m : Checked A) → told ≡ at_line n fault
+    → ((kind : YamlKind) → m ≡ Err kind → a ≡ Err (n, kind)) → Fails fault m
+    → IfRefused told (λ r. a ≡ Err (refusal_view r))
+refused-line told (Refused kind) n a m is to h = λ r same.
+    let e : record { line = n; kind = kind } ≡ r = cc in
+    to kind h ∙ ap (λ (x : YamlRefusal). Err (refusal_view x)) e
+refused-line told NoMemory n a m is to h = λ r same. cc
 
 abbrev good_answer : Data → Parsed
 good_answer d = Ok d

@@ -7,7 +7,7 @@ use Rattle.rvs_tree.specs.Value.{Value}
 use Rattle.rvs_yaml_text.specs.Word.{Name}
 use Rattle.rvs_yaml.specs.Block.{Found, found, named}
 use Rattle.rvs_yaml.specs.Anchors.{Anchors}
-use Rattle.rvs_yaml.specs.Stack.{Done, Open, own_found, closed_as}
+use Rattle.rvs_yaml.specs.Stack.{Done, Open, own_found}
 use Rattle.rvs_yaml.specs.Stack.{noted}
 use Rattle.rvs_yaml.proofs.InOrder as exact
 use Rattle.rvs_yaml.specs.StepParts.{closed_value}

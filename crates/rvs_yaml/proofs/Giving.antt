@@ -1,51 +1,55 @@
 -- Results against checks that go on.
 use Rattle.std.proofs.Common.{◌≡◌, List, Result, Err, ap, subst, ◌∙◌, sym, arith}
+use Rattle.rvs_fault.specs.declared.faults.Fault.{Fault}
+use Rattle.rvs_fault.specs.declared.faults.Fault.TheVariants.{Refused}
 use Rattle.rvs_yaml.specs.Checks.{Checked, ◌>>=◌}
-use Rattle.rvs_yaml.specs.Gives.{Agrees, Gives, Fails, FailsWith}
+use Rattle.rvs_yaml.specs.Gives.{Decides, Gives, Fails, FailsWith}
 use Rattle.rvs_yaml.specs.Reader.{kept, Passes, RefusesFront, DeniesFront}
 use Rattle.rvs_tree.specs.Value.{Value}
 use Rattle.rvs_yaml.specs.Stack.{Open}
 use Rattle.rvs_yaml_text.specs.declared.kind.YamlKind.{YamlKind}
 
-pub fails_to : {A B : Type 0} (kind : YamlKind) (m : Checked A) (t : Checked B)
-    → (m ≡ Err kind → t ≡ Err kind) → Fails kind m → Fails kind t
-fails_to kind m = grind arith
+pub fails_to : {A B : Type 0} (fault : Fault YamlKind) (m : Checked A) (t : Checked B)
+    → ((kind : YamlKind) → m ≡ Err kind → t ≡ Err kind) → Fails fault m → Fails fault t
+fails_to fault m = grind arith
 
 -- what fails at first fails as a whole
-pub fails_first : {A B : Type 0} (kind : YamlKind) (m : Checked A) (f : A → Checked B)
-    (t : Checked B) → (m >>= f) ≡ t → Fails kind m → Fails kind t
-fails_first kind m f t e h = fails_to kind m t (λ is. sym e ∙ ap (λ n. n >>= f) is) h
+pub fails_first : {A B : Type 0} (fault : Fault YamlKind) (m : Checked A) (f : A → Checked B)
+    (t : Checked B) → (m >>= f) ≡ t → Fails fault m → Fails fault t
+fails_first fault m f t e h = fails_to fault m t (λ kind is. sym e ∙ ap (λ n. n >>= f) is) h
 
-pub gives_same : {X Y : Type 0} (see : X → Y) (r : Result X YamlKind) (m t : Checked Y) → m ≡ t
-    → Gives see r m → Gives see r t
+pub gives_same : {X Y : Type 0} (see : X → Y) (r : Result X (Fault YamlKind)) (m t : Checked Y)
+    → m ≡ t → Gives see r m → Gives see r t
 gives_same see h = grind arith
 
-pub fails_with : {A : Type 0} (kind : YamlKind) (m : Checked A) → m ≡ Err kind → Fails kind m
-fails_with kind = grind arith
+pub fails_with : {A : Type 0} (kind : YamlKind) (m : Checked A) → m ≡ Err kind
+    → Fails (Refused kind) m
+fails_with kind m is = is
 
 -- a function that takes no memory, in one that does
-pub agrees_gives : {X Y : Type 0} (see : X → Y) (r : Result X YamlKind) (m t : Checked Y) → m ≡ t
-    → Agrees see r m → Gives see r t
-agrees_gives see h = grind arith
+pub decides_gives : {X Y : Type 0} (see : X → Y) (r : Result X (Fault YamlKind)) (m t : Checked Y)
+    → m ≡ t → Decides see r m → Gives see r t
+decides_gives see h = grind arith
 
-pub refuses_denies : (r : Result (Unit {0}) YamlKind) (m : Checked Value) → RefusesFront r m
-    → DeniesFront r m
+pub refuses_denies : (r : Result (Unit {0}) (Fault YamlKind)) (m : Checked Value)
+    → RefusesFront r m → DeniesFront r m
 refuses_denies r m h = grind arith
 
-pub passes_same : {X : Type 0} (see : X → List Open) (r : Result X YamlKind)
+pub passes_same : {X : Type 0} (see : X → List Open) (r : Result X (Fault YamlKind))
     (m t : Checked (List Open)) → m ≡ t → Passes see r m → Passes see r t
 passes_same see r m t e h = subst (Passes see r) e h
 
-pub gives_passes : {X : Type 0} (see : X → List Open) (r : Result X YamlKind)
+pub gives_passes : {X : Type 0} (see : X → List Open) (r : Result X (Fault YamlKind))
     (m t : Checked (List Open)) → m ≡ t → Gives see r m → Passes see r t
 gives_passes see h = grind arith
 
 -- what fails at first fails in the end
-pub fails_kept : (kind : YamlKind) (m t : Checked (List Open)) (f : List Open → Checked (List Open))
-    → (m >>= f) ≡ t → Fails kind m → Fails kind (t >>= kept)
-fails_kept kind m t f e h = grind (arith, fails_to)
+pub fails_kept : (fault : Fault YamlKind) (m t : Checked (List Open))
+    (f : List Open → Checked (List Open)) → (m >>= f) ≡ t → Fails fault m
+    → Fails fault (t >>= kept)
+fails_kept fault m t f e h = grind (arith, fails_to)
 
--- what agrees with a check fails where the check does
-pub agrees_fails : {X Y : Type 0} (see : X → Y) (r : Result X YamlKind) (m : Checked Y)
-    → Agrees see r m → FailsWith r m
-agrees_fails see = grind arith
+-- what decides a check fails where the check does
+pub decides_fails : {X Y : Type 0} (see : X → Y) (r : Result X (Fault YamlKind)) (m : Checked Y)
+    → Decides see r m → FailsWith r m
+decides_fails see = grind arith

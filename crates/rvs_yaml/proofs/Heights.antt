@@ -19,7 +19,7 @@ use Rattle.rvs_yaml.specs.Anchors.{Anchors, lookup, known_alias}
 use Rattle.rvs_yaml.specs.Entry.{written}
 use Rattle.rvs_yaml.specs.Flow.{FlowState, member, behind_member, key_place, entry_value}
 use Rattle.rvs_yaml.specs.Flow.{behind_entry}
-use Rattle.rvs_yaml.specs.Flow.{first_place, new_key, with_value, with_comma, with_key}
+use Rattle.rvs_yaml.specs.Flow.{new_key, with_value, with_comma, with_key}
 use Rattle.rvs_yaml.specs.Flow.{with_cut_key, with_colon_scalar, with_alias, with_fault, with_token}
 use Rattle.rvs_yaml.specs.Flow.{closes, ends_with, fits, flow_value}
 use Rattle.rvs_yaml.specs.FlowSteps.{Reading, open_in, whole, into, moved, flow_step, flow_steps}

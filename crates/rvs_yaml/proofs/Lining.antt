@@ -2,7 +2,6 @@
 use Rattle.std.proofs.Common.{◌≡◌, ℕ, suc, ◌+◌, ◌-◌, ◌≤◌, Bool, true, false, List, [], ◌∷◌, length}
 use Rattle.std.proofs.Common.{Option, Some, None, refl, sym, ap, ◌∙◌, arith, rules}
 use Rattle.std.specs.Prelude.{◌==◌, ◌&&◌}
-use Rattle.std.proofs.lemmas.Bool.Decides.{nat_tests}
 use Rattle.rvs_yaml_text.specs.Word.{dash}
 use Rattle.rvs_yaml_text.specs.Scalar.{without_spaces, ends_indicator, is_blank}
 use Rattle.rvs_yaml_text.specs.Text.{word_at, item_name, words_at, last_words}

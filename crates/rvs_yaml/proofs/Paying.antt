@@ -1,16 +1,15 @@
 -- Refusing a line for its front before the value of its flow collection is made.
-use Rattle.std.proofs.Common.{◌≡◌, Bool, false, List, ◌∷◌, ◌++◌, Some, Result}
-use Rattle.std.proofs.Common.{Ok, Err, ap, arith}
-use Rattle.std.specs.Prelude.{if◌then◌else◌}
+use Rattle.std.proofs.Common.{◌≡◌, false, List, ◌∷◌, ◌++◌, Some, Result}
+use Rattle.std.proofs.Common.{Ok, Err, arith}
+use Rattle.rvs_fault.specs.declared.faults.Fault.{Fault}
 use Rattle.rvs_tree.specs.Value.{Value}
 use Rattle.rvs_tree.specs.Standin.{standin}
 use Rattle.rvs_yaml_text.specs.Word.{Bracket, Token, opens_block}
-use Rattle.rvs_yaml.specs.Checks.{Checked, ◌>>=◌, ◌>>◌, mapped}
+use Rattle.rvs_yaml.specs.Checks.{Checked, ◌>>=◌, mapped}
 use Rattle.rvs_yaml.specs.Flow.{flow_value}
 use Rattle.rvs_yaml.specs.Stack.{Open, known_of}
-use Rattle.rvs_yaml.specs.Filling.{with_own, filled}
+use Rattle.rvs_yaml.specs.Filling.{filled}
 use Rattle.rvs_yaml.specs.Front.{ends}
-use Rattle.rvs_yaml.specs.Parsed.{within_limits}
 use Rattle.rvs_yaml.specs.Reader.{kept, DeniesFront, Denies}
 use Rattle.rvs_yaml.specs.Gives.{Fails}
 use Rattle.rvs_yaml_text.specs.declared.kind.YamlKind.{YamlKind}
@@ -24,18 +23,19 @@ stood-for m thin h = grind arith
 stood-err : (m : Checked Value) (kind : YamlKind) → mapped standin m ≡ Err kind → m ≡ Err kind
 stood-err m kind h = grind arith
 
-pub denied-flow : (o : Open) (bs : List Open) (b : Bracket) (ts : List Token) (kind : YamlKind)
-    → Fails kind (mapped standin (flow_value (o.anchors ++ known_of bs) o.head.line b ts))
-    → Fails kind (filled (Some (b, ts)) (o ∷ bs) >>= kept)
-denied-flow o bs b ts kind h = grind (arith, fails_to, stood-err)
+pub denied-flow : (o : Open) (bs : List Open) (b : Bracket) (ts : List Token)
+    (fault : Fault YamlKind)
+    → Fails fault (mapped standin (flow_value (o.anchors ++ known_of bs) o.head.line b ts))
+    → Fails fault (filled (Some (b, ts)) (o ∷ bs) >>= kept)
+denied-flow o bs b ts fault h = grind (arith, fails_to, stood-err)
 
-denied-by : (r : Result (Unit {0}) YamlKind) (o : Open) (bs : List Open) (b : Bracket)
+denied-by : (r : Result (Unit {0}) (Fault YamlKind)) (o : Open) (bs : List Open) (b : Bracket)
     (ts : List Token) (v : Value) → opens_block o.head.sort ≡ false → flow_value
     (o.anchors ++ known_of bs) o.head.line b ts ≡ Ok v →
     DeniesFront r (ends v (o ∷ bs)) → Denies r (filled (Some (b, ts)) (o ∷ bs))
 denied-by r o bs b ts v leaf e h = grind arith
 
-denied-one : (r : Result (Unit {0}) YamlKind) (o : Open) (bs : List Open) (b : Bracket)
+denied-one : (r : Result (Unit {0}) (Fault YamlKind)) (o : Open) (bs : List Open) (b : Bracket)
     (ts : List Token) (thin : Value) → opens_block o.head.sort ≡ false →
     ((v : Value) → flow_value (o.anchors ++ known_of bs) o.head.line b ts ≡ Ok v → thin ≡ standin v
     → DeniesFront r (ends v (o ∷ bs))) →
@@ -43,7 +43,8 @@ denied-one : (r : Result (Unit {0}) YamlKind) (o : Open) (bs : List Open) (b : B
     × (thin ≡ standin v)) → Denies r (filled (Some (b, ts)) (o ∷ bs))
 denied-one r o bs b ts thin leaf f (v, e, s) = denied-by r o bs b ts v leaf e (f v e s)
 
-pub denied-front : (r : Result (Unit {0}) YamlKind) (o : Open) (bs : List Open) (b : Bracket)
+pub denied-front : (r : Result (Unit {0}) (Fault YamlKind)) (o : Open) (bs : List Open)
+    (b : Bracket)
     (ts : List Token) (thin : Value) → opens_block o.head.sort ≡ false →
     mapped standin (flow_value (o.anchors ++ known_of bs) o.head.line b ts) ≡ Ok thin →
     ((v : Value) → flow_value (o.anchors ++ known_of bs) o.head.line b ts ≡ Ok v → thin ≡ standin v

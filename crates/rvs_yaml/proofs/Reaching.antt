@@ -19,7 +19,7 @@ use Rattle.rvs_yaml.specs.Checks.{Checked, ◌>>=◌, ◌>>◌, check}
 use Rattle.rvs_yaml.specs.Anchors.{Anchors}
 use Rattle.rvs_yaml.specs.Entry.{written}
 use Rattle.rvs_yaml.specs.Parsed.{within_limits}
-use Rattle.rvs_yaml.specs.Block.{Found, no_place, item_at, key_at, check_merge}
+use Rattle.rvs_yaml.specs.Block.{Found, key_at, check_merge}
 use Rattle.rvs_yaml.specs.Block as block_spec
 use Rattle.rvs_yaml.specs.Stack.{Done, done_items, done_entries, alone, Open, begun_done, begun}
 use Rattle.rvs_yaml.specs.Stack.{begins, own_found, closed_into, advanced_as, put, advanced}
@@ -28,7 +28,6 @@ use Rattle.rvs_yaml.specs.StepParts.{closed_value}
 use Rattle.rvs_yaml.specs.Front.{own_value, ends, front_value, checked_front}
 use Rattle.rvs_yaml.specs.Reach.{level, levels, reach, passed, deepened, seen, sight, KeepsDepth}
 use Rattle.rvs_yaml.proofs.Fronts.{own-value}
-use Rattle.rvs_yaml_text.specs.declared.kind.YamlKind.{YamlKind}
 use Rattle.rvs_yaml_text.specs.declared.kind.YamlKind.TheVariants.{Unsupported}
 
 -- checks that hold

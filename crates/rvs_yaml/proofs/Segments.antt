@@ -14,8 +14,8 @@ use Rattle.rvs_yaml.specs.Anchors as anchors_spec
 use Rattle.rvs_yaml.specs.Checks.{◌>>=◌}
 use Rattle.rvs_yaml.specs.Block.{found, content_value}
 use Rattle.rvs_yaml.specs.Stack as spec
-use Rattle.rvs_yaml.specs.Stack.{Done, done_items, done_entries, alone, known_of, noted, closed_as}
-use Rattle.rvs_yaml.specs.Stack.{closed_into, settled, step}
+use Rattle.rvs_yaml.specs.Stack.{Done, known_of, noted, closed_as}
+use Rattle.rvs_yaml.specs.Stack.{settled, step}
 use Rattle.rvs_yaml.specs.StepParts.{Block, opened, bare, closed_value, put_content}
 use Rattle.rvs_yaml.specs.Filling.{with_own, filled}
 use Rattle.rvs_yaml.specs.Flow.{flow_value}

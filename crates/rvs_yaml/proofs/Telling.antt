@@ -1,13 +1,18 @@
 -- What the answer says of the lines.
 use Rattle.std.proofs.Common.{◌≡◌, ℕ, zero, suc, ◌≤◌, Bool, false, List, [], ◌∷◌, take}
-use Rattle.std.proofs.Common.{Result, Ok, Err, sym, ap, ◌∙◌, subst, arith, rules}
+use Rattle.std.proofs.Common.{Result, Ok, Err, sym, ap, ◌∙◌, subst, arith}
 use Rattle.std.specs.Prelude.{min, not, IfOk, IfErr}
+use Rattle.rvs_fault.specs.Answers.{AnswersAs, IfRefused}
+use Rattle.rvs_fault.specs.declared.faults.Fault.{Fault}
 use Rattle.rvs_tree.specs.Data.{Data, depth}
+use Rattle.rvs_tree.specs.TreeView.{view}
+use Rattle.rvs_tree.specs.declared.tree.Tree.{Tree}
 use Rattle.rvs_tree.specs.Value.{Value}
 use Rattle.rvs_yaml.specs.Checks.{Checked, ◌>>=◌, ◌>>◌, check}
 use Rattle.rvs_yaml.specs.Parsed.{answer, within_limits, HasTree, IsTreeOf, IsFirstFault, Tells}
-use Rattle.rvs_yaml.specs.Parsed.{RefusesLines, KeepsNodes, FrontsHaveTrees}
-use Rattle.rvs_yaml.specs.Reader.{Refuses}
+use Rattle.rvs_yaml.specs.Parsed.{KeepsNodes, FrontsHaveTrees}
+use Rattle.rvs_yaml.specs.Refusing.{refusal_view}
+use Rattle.rvs_yaml.specs.declared.refusal.YamlRefusal.{YamlRefusal}
 use Rattle.rvs_yaml_text.specs.Text.{lines_of}
 use Rattle.rvs_yaml_text.specs.declared.kind.YamlKind.{YamlKind}
 use Rattle.rvs_yaml.proofs.Least.{answers_are_least}
@@ -19,9 +24,18 @@ fault-told : (bytes : List ℕ) (line : ℕ) (kind : YamlKind) → answer bytes 
     → IsFirstFault (lines_of bytes) line kind
 fault-told bytes line kind e = subst (Tells (lines_of bytes)) e (answers_are_least bytes)
 
-pub refusal-told : (bytes : List ℕ) (line : ℕ) (kind : YamlKind) → Refuses kind line (answer bytes)
-    → RefusesLines (lines_of bytes) kind line
-refusal-told bytes line kind h = search (rules, fault-told)
+-- what an answer says of the lines, from what it says of the bytes
+pub read-tree : {P : Data → Type 0} (bytes : List ℕ) (r : Result Tree (Fault YamlRefusal))
+    → AnswersAs view refusal_view r (answer bytes)
+    → ((d : Data) → answer bytes ≡ Ok d → P d) → IfOk r (λ t. P (view t))
+read-tree bytes (Ok t) is told = told (view t) is
+read-tree bytes (Err fault) is told = tt
+
+pub read-refused : (bytes : List ℕ) (r : Result Tree (Fault YamlRefusal))
+    → AnswersAs view refusal_view r (answer bytes)
+    → IfErr r (λ fault. IfRefused fault (λ e. IsFirstFault (lines_of bytes) e.line e.kind))
+read-refused bytes (Ok t) is = tt
+read-refused bytes (Err fault) is = λ e same. fault-told bytes e.line e.kind (is e same)
 
 -- what a check that holds says
 checked : (b : Bool) (kind : YamlKind) → check (not b) kind ≡ Ok tt → b ≡ false
@@ -48,14 +62,10 @@ tree-shallow bytes d e = grind (arith, kept-by, tree-told)
 pub tree-few : (bytes : List ℕ) (d : Data) → answer bytes ≡ Ok d → KeepsNodes (lines_of bytes) d
 tree-few bytes d e = grind (arith, kept-by, tree-told)
 
--- what holds of an Ok, or of an Err, from what else holds of it
+-- what holds of an Ok from what else holds of it
 pub if_ok : {X E : Type 0} (r : Result X E) (P Q : X → Type 0) → ((x : X) → P x → Q x) → IfOk r P
     → IfOk r Q
 if_ok h e = grind arith
-
-pub if_err : {X E : Type 0} (r : Result X E) (P Q : E → Type 0) → ((e : E) → P e → Q e) → IfErr r P
-    → IfErr r Q
-if_err h e = grind arith
 
 take_nil : (n : ℕ) → take n (let none : List (List ℕ) = [] in none) ≡ []
 take_nil n = grind arith

@@ -19,7 +19,7 @@ use Rattle.rvs_yaml.specs.Flow.{behind_entry}
 use Rattle.rvs_yaml.specs.Flow.{first_place, new_key, with_value, with_comma, with_key}
 use Rattle.rvs_yaml.specs.Flow.{with_cut_key, with_colon_scalar, with_alias, with_fault, with_token}
 use Rattle.rvs_yaml.specs.Flow.{may_open, closes, ends_with, entry_fits, last_fits, fits}
-use Rattle.rvs_yaml.specs.Flow.{merged_well, flow_value}
+use Rattle.rvs_yaml.specs.Flow.{flow_value}
 use Rattle.rvs_yaml.specs.FlowSteps.{Reading, open_in, whole, closed_by, into, moved, flow_step}
 use Rattle.rvs_yaml.specs.FlowSteps.{flow_steps}
 use Rattle.rvs_yaml.specs.FlowParts.{first_reading, ended, formed_flow}

@@ -1,5 +1,5 @@
 -- The tokens of a text, one after another.
-use Rattle.std.proofs.Common.{◌≡◌, ℕ, suc, Bool, true, false, List, [], ◌∷◌, Ok, refl}
+use Rattle.std.proofs.Common.{◌≡◌, ℕ, suc, Bool, true, false, List, [], Ok, refl}
 use Rattle.std.proofs.Common.{arith}
 use Rattle.std.specs.Prelude.{◌==◌, ◌&&◌}
 use Rattle.std.proofs.lemmas.Bool.Decides.{nat_tests}
@@ -7,9 +7,8 @@ use Rattle.rvs_yaml_text.specs.Bytes.{space_byte}
 use Rattle.rvs_yaml_text.specs.Scalar.{starts_with}
 use Rattle.rvs_yaml.specs.Checks.{Checked, ◌>>=◌, mapped}
 use Rattle.rvs_yaml.specs.Anchors.{Anchors}
-use Rattle.rvs_yaml_text.specs.Word.{Token}
 use Rattle.rvs_yaml_text.specs.Tokens.{tokens, next_token, closes, FirstToken}
-use Rattle.rvs_yaml.specs.TokenParts.{Flowing, flowing, is_flow_end, next_flowing}
+use Rattle.rvs_yaml.specs.TokenParts.{flowing, is_flow_end, next_flowing}
 use Rattle.rvs_yaml.specs.FlowSteps.{Reading, flow_step, flow_steps}
 
 and_left : (x y : Bool) → (x && y) ≡ true → x ≡ true

@@ -8,6 +8,7 @@ pub mod Entry
 pub mod Flow
 pub mod Block
 pub mod Parsed
+pub mod Refusing
 -- How the code reads: with a stack of open blocks, and with a list of open brackets. None of this
 -- is part of the definition.
 pub mod Stack

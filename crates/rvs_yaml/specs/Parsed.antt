@@ -8,7 +8,7 @@ use Rattle.rvs_yaml.specs.Checks.{Checked, ◌>>=◌, ◌>>◌, check}
 use Rattle.rvs_yaml.specs.Block.{tree_of}
 use Rattle.rvs_yaml_text.specs.Text.{lines_of, words_of}
 use Rattle.rvs_yaml_text.specs.declared.kind.YamlKind.{YamlKind}
-use Rattle.rvs_yaml_text.specs.declared.kind.YamlKind.TheVariants.{TooDeep, TooManyNodes, NoMemory}
+use Rattle.rvs_yaml_text.specs.declared.kind.YamlKind.TheVariants.{TooDeep, TooManyNodes}
 
 -- the limits on depth and on the number of nodes
 abbrev pub within_limits : Value → Checked (Unit {0})
@@ -54,11 +54,6 @@ pub record IsTreeOf (lines : List (List ℕ)) (tree : Data) : Type 0 where
 abbrev pub Tells : List (List ℕ) → Parsed → Type 0
 Tells lines (Ok tree) = IsTreeOf lines tree
 Tells lines (Err refusal) = IsFirstFault lines refusal.0 refusal.1
-
--- What a refusal says of the lines: their first fault, and line 0 for want of memory.
-abbrev pub RefusesLines : List (List ℕ) → YamlKind → ℕ → Type 0
-RefusesLines lines NoMemory line = line ≡ 0
-RefusesLines lines kind line = IsFirstFault lines line kind
 
 -- the lines have a value with this tree, for which at most 500,000 nodes count
 abbrev pub KeepsNodes : List (List ℕ) → Data → Type 0

@@ -11,6 +11,7 @@ use crate::chain::{merges, root_of};
 use crate::fill::fill_flow;
 use crate::open::{Block, Done, Open};
 use crate::open_blocks::OpenBlocks;
+use rvs_fault::Fault;
 use rvs_tree::{Tree, Value, tree_of};
 use rvs_yaml_text::{Bracket, YamlKind};
 use std::alloc::{AllocError, Global};
@@ -233,7 +234,7 @@ pub(crate) fn filled<'a>(
     alloc: Global,
     stack: OpenBlocks<'a>,
     flow: Option<(Bracket, &'a str)>,
-) -> Result<OpenBlocks<'a>, YamlKind>
+) -> Result<OpenBlocks<'a>, Fault<YamlKind>>
     ensures { Passes open_blocks result
         (spec.filled (flow_view flow.entry) (open_blocks stack.entry)) }
 {

@@ -11,6 +11,7 @@ ghost use Rattle.rvs_yaml.specs.StackView.{own_view, stack_view, open_blocks};
 use crate::open::{Block, Open};
 use crate::open_blocks::OpenBlocks;
 use crate::stack::{closed_value, into_blocks, own_value};
+use rvs_fault::Fault;
 use rvs_tree::{Value, scalar_value};
 use rvs_yaml_text::YamlKind;
 use std::alloc::Global;
@@ -20,7 +21,7 @@ fn closed_blocks(
     alloc: Global,
     mut blocks: Vec<Open<'_>>,
     mut value: Value,
-) -> Result<Value, YamlKind>
+) -> Result<Value, Fault<YamlKind>>
     ensures { Gives value_view result
         (spec.ends (value_view value) (stack_view blocks.entry.items)) }
 {
@@ -33,14 +34,14 @@ fn closed_blocks(
 }
 
 /// The value of the lines so far. It takes the blocks, so that nothing is held twice.
-pub(crate) fn into_value(alloc: Global, stack: OpenBlocks<'_>) -> Result<Value, YamlKind>
+pub(crate) fn into_value(alloc: Global, stack: OpenBlocks<'_>) -> Result<Value, Fault<YamlKind>>
     ensures { Gives value_view result (spec.front_value (open_blocks stack.entry)) }
 {
     closed_stack(alloc, into_blocks(stack))
 }
 
 /// The value of these blocks.
-fn closed_stack(alloc: Global, mut blocks: Vec<Open<'_>>) -> Result<Value, YamlKind>
+fn closed_stack(alloc: Global, mut blocks: Vec<Open<'_>>) -> Result<Value, Fault<YamlKind>>
     ensures { Gives value_view result (spec.front_value (stack_view blocks.entry.items)) }
 {
     let Some(top) = blocks.pop() else {

@@ -23,20 +23,22 @@ use crate::height::flow_height;
 use crate::known::Known;
 use crate::open::Open;
 use crate::open_blocks::OpenBlocks;
+use crate::taking::{boxed, push};
+use rvs_fault::Fault;
 use rvs_tree::{DEEP, Value};
 use rvs_yaml_text::{Bracket, Content, Shape, YamlKind};
 use std::alloc::Global;
 
 /// Refuses a line whose front has too many nodes and can't be too deep, where this stands for the
 /// value of its last word, which is at most so deep.
-fn check_nodes(blocks: &[Open<'_>], thin: &Value, height: u64) -> Result<(), YamlKind>
+fn check_nodes(blocks: &[Open<'_>], thin: &Value, height: u64) -> Result<(), Fault<YamlKind>>
     requires { height ≤ 33 }
     ensures { (v : value_spec.Value) → value_view thin.now ≡ standin v
         → min (depth v.tree) 33 ≤ height → RefusesFront result (ends v (stack_view blocks.now)) }
 {
     let sketch = sketch_with(blocks, thin_sketch(thin, height))?;
     if sketch.nodes > MOST_NODES && sketch.depth <= MOST_DEPTH {
-        Err(YamlKind::TooManyNodes)
+        Err(Fault::Refused(YamlKind::TooManyNodes))
     } else {
         Ok(())
     }
@@ -50,7 +52,7 @@ fn check_thin(
     blocks: &[Open<'_>],
     thin: &Value,
     text: &str,
-) -> Result<(), YamlKind>
+) -> Result<(), Fault<YamlKind>>
     ensures { (line : ℕ) → (b : word_spec.Bracket) → (v : value_spec.Value)
         → flow_value (all_known known.now) line b (tokens_of text.now) ≡ Ok v
         → value_view thin.now ≡ standin v → DeniesFront result (ends v (stack_view blocks.now)) }
@@ -70,7 +72,7 @@ fn check_paid(
     stack: &OpenBlocks<'_>,
     bracket: Bracket,
     text: &str,
-) -> Result<(), YamlKind>
+) -> Result<(), Fault<YamlKind>>
     ensures { Denies result
         (spec.filled (Some (bracket_view bracket, tokens_of text.now)) (open_blocks stack.now)) }
 {
@@ -96,7 +98,7 @@ fn value_with(
     line: u64,
     bracket: Bracket,
     text: &str,
-) -> Result<Value, YamlKind>
+) -> Result<Value, Fault<YamlKind>>
     ensures { Gives value_view result (flow_value (anchors_view anchors.now.anchors.items) line
         (bracket_view bracket) (tokens_of text.now)) }
 {
@@ -114,12 +116,12 @@ fn own_with(
     line: u64,
     bracket: Bracket,
     text: &str,
-) -> Result<Option<Box<Value>>, YamlKind>
+) -> Result<Option<Box<Value>>, Fault<YamlKind>>
     ensures { Gives (own_view line) result (flow_value (anchors_view anchors.now.anchors.items) line
         (bracket_view bracket) (tokens_of text.now)) }
 {
     let own = value_with(alloc, anchors, line, bracket, text)?;
-    Ok(Some(Box::new(alloc, own)?))
+    Ok(Some(boxed(alloc, own)?))
 }
 
 /// Whether an alias may stand in the text.
@@ -134,7 +136,7 @@ fn fill<'a>(
     stack: OpenBlocks<'a>,
     bracket: Bracket,
     text: &str,
-) -> Result<OpenBlocks<'a>, YamlKind>
+) -> Result<OpenBlocks<'a>, Fault<YamlKind>>
     ensures { Passes open_blocks result
         (spec.filled (Some (bracket_view bracket, tokens_of text.now)) (open_blocks stack.entry)) }
 {
@@ -155,14 +157,14 @@ fn fill<'a>(
     } = top;
     match own_with(alloc, &anchors, head.line, bracket, text) {
         Ok(own) => {
-            blocks.push(Open { block, head, own })?;
+            push(&mut blocks, Open { block, head, own })?;
             Ok(OpenBlocks { blocks, anchors })
         }
-        Err(kind) => {
+        Err(fault) => {
             drop(block);
             drop(blocks);
             drop(anchors);
-            Err(kind)
+            Err(fault)
         },
     }
 }
@@ -214,7 +216,7 @@ pub(crate) fn fill_flow<'a>(
     alloc: Global,
     stack: OpenBlocks<'a>,
     flow: Option<(Bracket, &'a str)>,
-) -> Result<OpenBlocks<'a>, YamlKind>
+) -> Result<OpenBlocks<'a>, Fault<YamlKind>>
     ensures { Passes open_blocks result
         (spec.filled (flow_view flow.entry) (open_blocks stack.entry)) }
 {

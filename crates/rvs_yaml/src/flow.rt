@@ -6,7 +6,7 @@ ghost use Rattle.rvs_yaml.specs.FlowSteps as steps_spec;
 ghost use Rattle.rvs_yaml.specs.FlowParts as parts;
 ghost use Rattle.rvs_yaml.specs.Anchors.{Anchors};
 ghost use Rattle.rvs_yaml.specs.Checks.{succeeds};
-ghost use Rattle.rvs_yaml.specs.Gives.{Agrees, Gives, FailsWith};
+ghost use Rattle.rvs_yaml.specs.Gives.{Agrees, Decides, Gives, FailsWith};
 ghost use Rattle.rvs_yaml.specs.StackView.{known_view};
 ghost use Rattle.rvs_tree.specs.ValueView.{value_view, written_view, entries_view};
 ghost use Rattle.rvs_yaml_text.specs.KeyView.{key_view};
@@ -19,6 +19,8 @@ use crate::flow_places::{ends_with, may_close, may_go_on, may_open, may_take};
 use crate::flow_refusals::{colon_scalar_refused, cut_key_refused, is_new, refused, start_refused};
 use crate::known::Known;
 use crate::reading::{FlowState, Level, Pending, Reading};
+use crate::taking::{boxed, push};
+use rvs_fault::Fault;
 use rvs_tree::{
     EntryList, Value, ValueList, Written, list_value, map_value, scalar_value, thin_list_value,
     thin_map_value,
@@ -37,7 +39,7 @@ fn first_place(alloc: Global, bracket: Bracket) -> FlowState
 }
 
 /// The place behind a value.
-fn with_value(alloc: Global, place: FlowState, value: Value) -> Result<FlowState, YamlKind>
+fn with_value(alloc: Global, place: FlowState, value: Value) -> Result<FlowState, Fault<YamlKind>>
     ensures given { Gives place_view result
         (spec.with_value (place_view place) (value_view value)) }
     ensures refused { FailsWith result
@@ -49,23 +51,23 @@ fn with_value(alloc: Global, place: FlowState, value: Value) -> Result<FlowState
             let Pending { list, key } = Box::into_inner(pending);
             Ok(FlowState::BehindEntry(list.with(alloc, entry_of(key, value))?))
         }
-        _ => Err(YamlKind::BadFlow),
+        _ => Err(Fault::Refused(YamlKind::BadFlow)),
     }
 }
 
 /// The place behind a comma.
-fn with_comma(place: FlowState) -> Result<FlowState, YamlKind>
-    ensures { Agrees place_view result (spec.with_comma (place_view place)) }
+fn with_comma(place: FlowState) -> Result<FlowState, Fault<YamlKind>>
+    ensures { Decides place_view result (spec.with_comma (place_view place)) }
 {
     match place {
         FlowState::BehindMember(list) => Ok(FlowState::Member(list)),
         FlowState::BehindEntry(list) => Ok(FlowState::KeyPlace(list)),
-        _ => Err(YamlKind::BadFlow),
+        _ => Err(Fault::Refused(YamlKind::BadFlow)),
     }
 }
 
 /// The place behind a key and its colon.
-fn with_key(alloc: Global, place: FlowState, key: Key) -> Result<FlowState, YamlKind>
+fn with_key(alloc: Global, place: FlowState, key: Key) -> Result<FlowState, Fault<YamlKind>>
     ensures given { Gives place_view result
         (spec.with_key (place_view place) (key_view key)) }
     ensures refused { FailsWith result
@@ -74,13 +76,13 @@ fn with_key(alloc: Global, place: FlowState, key: Key) -> Result<FlowState, Yaml
     match place {
         FlowState::KeyPlace(list) => {
             if is_new(&list, &key) {
-                Ok(FlowState::EntryValue(Box::new(alloc, Pending { list, key })?))
+                Ok(FlowState::EntryValue(boxed(alloc, Pending { list, key })?))
             } else {
-                Err(YamlKind::DuplicateKey)
+                Err(Fault::Refused(YamlKind::DuplicateKey))
             }
         }
-        FlowState::Member(_) | FlowState::EntryValue(_) => Err(YamlKind::BadScalar),
-        _ => Err(YamlKind::BadFlow),
+        FlowState::Member(_) | FlowState::EntryValue(_) => Err(Fault::Refused(YamlKind::BadScalar)),
+        _ => Err(Fault::Refused(YamlKind::BadFlow)),
     }
 }
 
@@ -90,7 +92,7 @@ fn alias_here(
     known: &Known<'_, '_>,
     place: &FlowState,
     name: &str,
-) -> Result<Value, YamlKind>
+) -> Result<Value, Fault<YamlKind>>
     ensures given { Gives value_view result
         (parts.alias_at (known_view known.now) (place_view place.now) name.now) }
     ensures refused { FailsWith result
@@ -99,12 +101,12 @@ fn alias_here(
     match place {
         FlowState::Member(_) | FlowState::EntryValue(_) => {
             if name.is_empty() {
-                return Err(YamlKind::BadFlow);
+                return Err(Fault::Refused(YamlKind::BadFlow));
             }
             known.alias_value(alloc, name)
         }
-        FlowState::KeyPlace(_) => Err(YamlKind::BadScalar),
-        _ => Err(YamlKind::BadFlow),
+        FlowState::KeyPlace(_) => Err(Fault::Refused(YamlKind::BadScalar)),
+        _ => Err(Fault::Refused(YamlKind::BadFlow)),
     }
 }
 
@@ -114,7 +116,7 @@ fn with_alias(
     known: &Known<'_, '_>,
     place: FlowState,
     name: &str,
-) -> Result<FlowState, YamlKind>
+) -> Result<FlowState, Fault<YamlKind>>
     ensures given { Gives place_view result
         (spec.with_alias (known_view known.now) (place_view place) name.now) }
     ensures refused { FailsWith result
@@ -122,12 +124,17 @@ fn with_alias(
 {
     match alias_here(alloc, known, &place, name) {
         Ok(value) => with_value(alloc, place, value),
-        Err(kind) => refused(place, kind),
+        Err(fault) => refused(place, fault),
     }
 }
 
 /// The place behind a scalar.
-fn with_scalar(alloc: Global, line: u64, place: FlowState, key: Key) -> Result<FlowState, YamlKind>
+fn with_scalar(
+    alloc: Global,
+    line: u64,
+    place: FlowState,
+    key: Key,
+) -> Result<FlowState, Fault<YamlKind>>
     ensures given { Gives place_view result
         (spec.with_value (place_view place) (value_spec.scalar_value (key_view key).name line)) }
     ensures refused { FailsWith result
@@ -145,7 +152,7 @@ fn with_token(
     line: u64,
     place: FlowState,
     token: Token<'_>,
-) -> Result<FlowState, YamlKind>
+) -> Result<FlowState, Fault<YamlKind>>
     ensures given { Gives place_view result
         (spec.with_token (known_view known.now) line (place_view place) (token_view token.entry)) }
     ensures refused { FailsWith result
@@ -160,13 +167,15 @@ fn with_token(
         Token::ColonScalar(byte) => colon_scalar_refused(place, byte),
         Token::Alias(name) => with_alias(alloc, known, place, name),
         Token::Fault(kind) => start_refused(place, kind),
-        Token::LateColon => refused(place, YamlKind::Unsupported),
-        Token::Opening(_) | Token::Closing(_) => refused(place, YamlKind::BadFlow),
+        Token::LateColon => refused(place, Fault::Refused(YamlKind::Unsupported)),
+        Token::Opening(_) | Token::Closing(_) => {
+            refused(place, Fault::Refused(YamlKind::BadFlow))
+        }
     }
 }
 
 /// The value of a collection that ends here.
-fn closes(alloc: Global, line: u64, place: FlowState) -> Result<Value, YamlKind>
+fn closes(alloc: Global, line: u64, place: FlowState) -> Result<Value, Fault<YamlKind>>
     ensures given { Gives value_view result (spec.closes line (place_view place)) }
     ensures refused { FailsWith result (spec.closes line (place_view place)) }
 {
@@ -177,12 +186,12 @@ fn closes(alloc: Global, line: u64, place: FlowState) -> Result<Value, YamlKind>
         FlowState::KeyPlace(list) | FlowState::BehindEntry(list) => {
             Ok(map_value(alloc, line, list)?)
         },
-        _ => Err(YamlKind::BadFlow),
+        _ => Err(Fault::Refused(YamlKind::BadFlow)),
     }
 }
 
 /// What stands for the value of a collection that ends here.
-fn thin_closes(alloc: Global, line: u64, place: &FlowState) -> Result<Value, YamlKind>
+fn thin_closes(alloc: Global, line: u64, place: &FlowState) -> Result<Value, Fault<YamlKind>>
     ensures given { Gives value_view result
         (steps_spec.closed_by true line (place_view place.now)) }
     ensures refused { FailsWith result
@@ -195,12 +204,17 @@ fn thin_closes(alloc: Global, line: u64, place: &FlowState) -> Result<Value, Yam
         FlowState::KeyPlace(list) | FlowState::BehindEntry(list) => {
             Ok(thin_map_value(alloc, line, list)?)
         },
-        _ => Err(YamlKind::BadFlow),
+        _ => Err(Fault::Refused(YamlKind::BadFlow)),
     }
 }
 
 /// The value of a collection that ends here, or what stands for it.
-fn closed_by(alloc: Global, poor: bool, line: u64, place: FlowState) -> Result<Value, YamlKind>
+fn closed_by(
+    alloc: Global,
+    poor: bool,
+    line: u64,
+    place: FlowState,
+) -> Result<Value, Fault<YamlKind>>
     ensures given { Gives value_view result (steps_spec.closed_by poor line (place_view place)) }
     ensures refused { FailsWith result (steps_spec.closed_by poor line (place_view place)) }
 {
@@ -246,7 +260,12 @@ fn still_good(good: bool, place: &FlowState) -> bool
 }
 
 /// What is read once a value is whole.
-fn into(alloc: Global, value: Value, good: bool, mut outer: Vec<Level>) -> Result<Reading, YamlKind>
+fn into(
+    alloc: Global,
+    value: Value,
+    good: bool,
+    mut outer: Vec<Level>,
+) -> Result<Reading, Fault<YamlKind>>
     ensures given { Gives reading_view result
         (steps_spec.into (value_view value, good) (levels_view outer.items)) }
     ensures refused { FailsWith result
@@ -274,7 +293,7 @@ fn opened(
     level: Level,
     mut outer: Vec<Level>,
     bracket: Bracket,
-) -> Result<Reading, YamlKind>
+) -> Result<Reading, Fault<YamlKind>>
     ensures given { Gives reading_view result
         (parts.opened good (bracket_view level.bracket)
         (place_view level.place) (levels_view outer.items) (bracket_view bracket)) }
@@ -285,9 +304,9 @@ fn opened(
     if let Err(kind) = may_open(&level.place) {
         drop(level);
         drop(outer);
-        return Err(kind);
+        return Err(Fault::Refused(kind));
     }
-    outer.push(level)?;
+    push(&mut outer, level)?;
     Ok(Reading::Inside(
         good,
         Level {
@@ -318,7 +337,7 @@ fn ended(
     level: Level,
     outer: Vec<Level>,
     bracket: Bracket,
-) -> Result<Reading, YamlKind>
+) -> Result<Reading, Fault<YamlKind>>
     requires { succeeds (parts.closed poor line good (bracket_view level.bracket)
         (place_view level.place) (levels_view outer.items) (bracket_view bracket)) ≡ Ok tt }
     ensures given { Gives reading_view result
@@ -341,7 +360,7 @@ fn closed(
     level: Level,
     outer: Vec<Level>,
     bracket: Bracket,
-) -> Result<Reading, YamlKind>
+) -> Result<Reading, Fault<YamlKind>>
     ensures given { Gives reading_view result
         (parts.closed poor line good (bracket_view level.bracket)
         (place_view level.place) (levels_view outer.items) (bracket_view bracket)) }
@@ -354,7 +373,7 @@ fn closed(
         Err(kind) => {
             drop(level);
             drop(outer);
-            Err(kind)
+            Err(Fault::Refused(kind))
         },
     }
 }
@@ -368,7 +387,7 @@ fn moved(
     level: Level,
     outer: Vec<Level>,
     token: Token<'_>,
-) -> Result<Reading, YamlKind>
+) -> Result<Reading, Fault<YamlKind>>
     ensures given { Gives reading_view result
         (steps_spec.moved good (bracket_view level.bracket)
         (levels_view outer.items) (spec.with_token (known_view known.now) line
@@ -399,7 +418,7 @@ fn inside(
     level: Level,
     outer: Vec<Level>,
     token: Token<'_>,
-) -> Result<Reading, YamlKind>
+) -> Result<Reading, Fault<YamlKind>>
     ensures given { Gives reading_view result (steps_spec.flow_step known.now.poor
         (known_view known.now) line (steps_spec.open_in good (bracket_view level.bracket)
         (place_view level.place) (levels_view outer.items)) (token_view token.entry)) }
@@ -415,14 +434,14 @@ fn inside(
 }
 
 /// Refuses a token behind a whole collection.
-fn behind_whole(token: Token<'_>) -> Result<Reading, YamlKind>
+fn behind_whole(token: Token<'_>) -> Result<Reading, Fault<YamlKind>>
     ensures { (poor : Bool) → (known : Anchors) → (line : ℕ) → (v : value_spec.Value)
-        → (good : Bool) → Agrees reading_view result (steps_spec.flow_step poor known line
+        → (good : Bool) → Decides reading_view result (steps_spec.flow_step poor known line
         (steps_spec.whole (v, good)) (token_view token.entry)) }
 {
     match token {
-        Token::LateColon => Err(YamlKind::Unsupported),
-        _ => Err(YamlKind::BadFlow),
+        Token::LateColon => Err(Fault::Refused(YamlKind::Unsupported)),
+        _ => Err(Fault::Refused(YamlKind::BadFlow)),
     }
 }
 
@@ -433,7 +452,7 @@ pub(crate) fn flow_step(
     line: u64,
     reading: Reading,
     token: Token<'_>,
-) -> Result<Reading, YamlKind>
+) -> Result<Reading, Fault<YamlKind>>
     ensures given { Gives reading_view result
         (steps_spec.flow_step known.now.poor (known_view known.now)
         line (reading_view reading) (token_view token.entry)) }
@@ -461,12 +480,12 @@ pub(crate) fn new_reading(alloc: Global, bracket: Bracket) -> Reading
 }
 
 /// The value of a collection with nothing behind it.
-pub(crate) fn flow_end(reading: Reading) -> Result<Value, YamlKind>
-    ensures { Agrees value_view result (parts.ended (reading_view reading)) }
+pub(crate) fn flow_end(reading: Reading) -> Result<Value, Fault<YamlKind>>
+    ensures { Decides value_view result (parts.ended (reading_view reading)) }
 {
     match reading {
         Reading::Whole(value, true) => Ok(value),
-        Reading::Whole(_, false) => Err(YamlKind::BadMerge),
-        Reading::Inside(_, _, _) => Err(YamlKind::BadFlow),
+        Reading::Whole(_, false) => Err(Fault::Refused(YamlKind::BadMerge)),
+        Reading::Inside(_, _, _) => Err(Fault::Refused(YamlKind::BadFlow)),
     }
 }

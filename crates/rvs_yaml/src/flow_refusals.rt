@@ -3,12 +3,13 @@ ghost use Rattle.std.specs.Prelude.{◌≡◌, Err, if◌then◌else◌};
 ghost use Rattle.rvs_yaml.specs.Flow as spec;
 ghost use Rattle.rvs_yaml.specs.FlowParts as parts;
 ghost use Rattle.rvs_yaml_text.specs.declared.kind.YamlKind.TheVariants.{BadScalar, BadFlow};
-ghost use Rattle.rvs_yaml.specs.Gives.{Agrees};
+ghost use Rattle.rvs_yaml.specs.Gives.{Decides};
 ghost use Rattle.rvs_tree.specs.ValueView.{entries_view};
 ghost use Rattle.rvs_yaml_text.specs.KeyView.{key_view};
 ghost use Rattle.rvs_yaml.specs.FlowView.{place_view};
 
 use crate::reading::FlowState;
+use rvs_fault::Fault;
 use rvs_tree::EntryList;
 use rvs_yaml_text::{Key, YamlKind};
 
@@ -69,32 +70,35 @@ fn start_fault(place: &FlowState, kind: YamlKind) -> YamlKind
 }
 
 /// Refuses what comes at this place, which is let go.
-pub(crate) fn refused(_place: FlowState, kind: YamlKind) -> Result<FlowState, YamlKind>
-    ensures { result ≡ Err kind }
+pub(crate) fn refused(
+    _place: FlowState,
+    fault: Fault<YamlKind>,
+) -> Result<FlowState, Fault<YamlKind>>
+    ensures { result ≡ Err fault }
 {
-    Err(kind)
+    Err(fault)
 }
 
 /// Refuses what begins here, and lets the place go.
-pub(crate) fn start_refused(place: FlowState, kind: YamlKind) -> Result<FlowState, YamlKind>
-    ensures { Agrees place_view result (spec.with_fault (place_view place) kind) }
+pub(crate) fn start_refused(place: FlowState, kind: YamlKind) -> Result<FlowState, Fault<YamlKind>>
+    ensures { Decides place_view result (spec.with_fault (place_view place) kind) }
 {
-    let fault = start_fault(&place, kind);
+    let fault = Fault::Refused(start_fault(&place, kind));
     refused(place, fault)
 }
 
 /// Refuses a quoted scalar with a colon and then more text, and lets the place go.
-pub(crate) fn cut_key_refused(place: FlowState, key: Key) -> Result<FlowState, YamlKind>
-    ensures { Agrees place_view result (spec.with_cut_key (place_view place) (key_view key)) }
+pub(crate) fn cut_key_refused(place: FlowState, key: Key) -> Result<FlowState, Fault<YamlKind>>
+    ensures { Decides place_view result (spec.with_cut_key (place_view place) (key_view key)) }
 {
-    let fault = cut_key_fault(&place, &key);
+    let fault = Fault::Refused(cut_key_fault(&place, &key));
     refused(place, fault)
 }
 
 /// Refuses a plain scalar that ends in a colon, where this byte ends it, and lets the place go.
-pub(crate) fn colon_scalar_refused(place: FlowState, byte: u8) -> Result<FlowState, YamlKind>
-    ensures { Agrees place_view result (spec.with_colon_scalar (place_view place) byte) }
+pub(crate) fn colon_scalar_refused(place: FlowState, byte: u8) -> Result<FlowState, Fault<YamlKind>>
+    ensures { Decides place_view result (spec.with_colon_scalar (place_view place) byte) }
 {
-    let fault = colon_scalar_fault(&place, byte);
+    let fault = Fault::Refused(colon_scalar_fault(&place, byte));
     refused(place, fault)
 }

@@ -17,6 +17,7 @@ ghost use Rattle.rvs_yaml.specs.FlowView.{reading_view, flowing_view};
 use crate::flow::{flow_end, flow_step, new_reading};
 use crate::known::Known;
 use crate::reading::{Flowing, Reading};
+use rvs_fault::Fault;
 use rvs_tree::Value;
 use rvs_yaml_text::{Bracket, Token, YamlKind, behind_first, closes, next_token, starts_with};
 use std::alloc::Global;
@@ -57,7 +58,7 @@ fn behind_token<'a>(
     reading: Reading,
     token: Token<'a>,
     behind: &'a str,
-) -> Result<Flowing<'a>, YamlKind>
+) -> Result<Flowing<'a>, Fault<YamlKind>>
     ensures { Gives flowing_view result (mapped
         (λ r. parts.flowing r (spec.closes (token_view token.entry)) false behind.entry.now)
         (steps_spec.flow_step known.now.poor (known_view known.now) line (reading_view reading)
@@ -79,7 +80,7 @@ fn next_flowing<'a>(
     known: &Known<'_, '_>,
     line: u64,
     flowing: Flowing<'a>,
-) -> Result<Flowing<'a>, YamlKind>
+) -> Result<Flowing<'a>, Fault<YamlKind>>
     requires { 0 < length flowing.rest.now }
     ensures { Gives flowing_view result (parts.next_flowing known.now.poor (known_view known.now)
         line (flowing_view flowing.entry)) }
@@ -98,7 +99,7 @@ fn flow_form(
     line: u64,
     bracket: Bracket,
     text: &str,
-) -> Result<Value, YamlKind>
+) -> Result<Value, Fault<YamlKind>>
     ensures { Gives value_view result (flow_parts.formed_flow known.now.poor (known_view known.now)
         line (bracket_view bracket) (spec.tokens_of text.now)) }
 {
@@ -127,7 +128,7 @@ pub(crate) fn flow_value(
     line: u64,
     bracket: Bracket,
     text: &str,
-) -> Result<Value, YamlKind>
+) -> Result<Value, Fault<YamlKind>>
     requires { known.now.poor ≡ false }
     ensures { Gives value_view result (flow_spec.flow_value (known_view known.now) line
         (bracket_view bracket) (spec.tokens_of text.now)) }
@@ -143,7 +144,7 @@ pub(crate) fn thin_flow_value(
     line: u64,
     bracket: Bracket,
     text: &str,
-) -> Result<Value, YamlKind>
+) -> Result<Value, Fault<YamlKind>>
     requires { known.now.poor ≡ true }
     ensures { Gives value_view result (mapped standin (flow_spec.flow_value (all_known known.now)
         line (bracket_view bracket) (spec.tokens_of text.now))) }

@@ -11,8 +11,8 @@ ghost use Rattle.rvs_yaml.specs.Stack.{done_entries};
 ghost use Rattle.rvs_yaml.specs.Parsed.{within_limits};
 ghost use Rattle.rvs_yaml.specs.Front as spec;
 ghost use Rattle.rvs_yaml.specs.Reach.{KeepsDepth};
-ghost use Rattle.rvs_yaml.specs.Gives.{Agrees, Gives, FailsWith};
-ghost use Rattle.rvs_yaml_text.specs.declared.kind.YamlKind.TheVariants.{NoMemory};
+ghost use Rattle.rvs_yaml.specs.Gives.{Decides, Gives, FailsWith};
+ghost use Rattle.rvs_fault.specs.declared.faults.Fault.TheVariants.{NoMemory};
 ghost use Rattle.rvs_yaml.specs.Sketched.{IsSketch, Brings, SketchedAs};
 ghost use Rattle.rvs_tree.specs.TreeView.{view};
 ghost use Rattle.rvs_yaml.specs.StackView.{own_view, done_view, open_view, stack_view};
@@ -26,6 +26,7 @@ use crate::reach::may_be_deep;
 use crate::reading::Pending;
 use crate::sketch::Sketch;
 use crate::stack::check_merge;
+use rvs_fault::Fault;
 use rvs_tree::{
     DEEP, EntryList, Tree, Value, ValueList, Written, into_tree, list_value, map_value, plus,
     scalar_value, shared_value, text_nodes,
@@ -351,7 +352,7 @@ fn longer_map(
 }
 
 /// The value of a block with its open member.
-fn closed_copy(alloc: Global, block: &Block, value: Value) -> Result<Value, YamlKind>
+fn closed_copy(alloc: Global, block: &Block, value: Value) -> Result<Value, Fault<YamlKind>>
     ensures given { Gives value_view result
         (parts.closed_value (done_view block.now.done) block.now.line (value_view value)) }
     ensures refused { FailsWith result
@@ -369,7 +370,7 @@ fn closed_copy(alloc: Global, block: &Block, value: Value) -> Result<Value, Yaml
 }
 
 /// The value of the lines so far.
-fn front_value(alloc: Global, blocks: &[Open<'_>]) -> Result<Value, YamlKind>
+fn front_value(alloc: Global, blocks: &[Open<'_>]) -> Result<Value, Fault<YamlKind>>
     ensures { Gives value_view result (spec.front_value (stack_view blocks.now)) }
 {
     let Some(top) = blocks.last() else {
@@ -410,12 +411,12 @@ fn is_too_deep(
     blocks: &[Open<'_>],
     arrivals: &[Arrivals],
     sketch: &Sketch,
-) -> Result<bool, YamlKind>
+) -> Result<bool, Fault<YamlKind>>
     requires { KeepsDepth (stack_view blocks.now) }
     ensures told { (v : value_spec.Value) → spec.front_value (stack_view blocks.now) ≡ Ok v
         → IsSketch v sketch.now → IfOk result (λ b. b ≡ nat_lt 32 (data_spec.depth v.tree)) }
     ensures memory { (v : value_spec.Value) → spec.front_value (stack_view blocks.now) ≡ Ok v
-        → IfErr result (λ kind. kind ≡ NoMemory) }
+        → IfErr result (λ fault. fault ≡ NoMemory) }
     ensures shallow { sketch.now.depth ≤ 32 → IsOk result }
     ensures deep { 33 ≤ sketch.now.least → IsOk result }
 {
@@ -430,14 +431,14 @@ fn is_too_deep(
 }
 
 /// Refuses a tree that is too deep, or has too many nodes.
-fn check_limits(deep: bool, nodes: u64) -> Result<(), YamlKind>
-    ensures { Agrees (λ u. u) result (spec.limited deep nodes) }
+fn check_limits(deep: bool, nodes: u64) -> Result<(), Fault<YamlKind>>
+    ensures { Decides (λ u. u) result (spec.limited deep nodes) }
 {
     if deep {
-        return Err(YamlKind::TooDeep);
+        return Err(Fault::Refused(YamlKind::TooDeep));
     }
     if nodes > MOST_NODES {
-        Err(YamlKind::TooManyNodes)
+        Err(Fault::Refused(YamlKind::TooManyNodes))
     } else {
         Ok(())
     }
@@ -450,14 +451,16 @@ fn check_sketched(
     blocks: &[Open<'_>],
     arrivals: &[Arrivals],
     sketch: &Sketch,
-) -> Result<(), YamlKind>
+) -> Result<(), Fault<YamlKind>>
     requires { KeepsDepth (stack_view blocks.now) }
     ensures given { (v : value_spec.Value) → spec.front_value (stack_view blocks.now) ≡ Ok v
         → IsSketch v sketch.now → Gives (λ u. u) result (within_limits v) }
     ensures shallow { (v : value_spec.Value) → spec.front_value (stack_view blocks.now) ≡ Ok v
-        → IsSketch v sketch.now → sketch.now.depth ≤ 32 → Agrees (λ u. u) result (within_limits v) }
+        → IsSketch v sketch.now → sketch.now.depth ≤ 32
+        → Decides (λ u. u) result (within_limits v) }
     ensures deep { (v : value_spec.Value) → spec.front_value (stack_view blocks.now) ≡ Ok v
-        → IsSketch v sketch.now → 33 ≤ sketch.now.least → Agrees (λ u. u) result (within_limits v) }
+        → IsSketch v sketch.now → 33 ≤ sketch.now.least
+        → Decides (λ u. u) result (within_limits v) }
 {
     let deep = is_too_deep(alloc, blocks, arrivals, sketch)?;
     check_limits(deep, sketch.nodes)
@@ -468,7 +471,7 @@ pub(crate) fn check_front(
     alloc: Global,
     blocks: &[Open<'_>],
     arrivals: &[Arrivals],
-) -> Result<(), YamlKind>
+) -> Result<(), Fault<YamlKind>>
     requires { KeepsDepth (stack_view blocks.now) }
     ensures given { Gives (λ u. u) result (spec.checked_front (stack_view blocks.now)) }
     ensures merged { FailsWith result (spec.front_value (stack_view blocks.now)) }

@@ -9,6 +9,7 @@ ghost use Rattle.rvs_tree.specs.ValueView.{value_view};
 
 use crate::anchor_list::AnchorList;
 use crate::anchoring::find_anchor;
+use rvs_fault::Fault;
 use rvs_tree::{Value, shared_value, thin_value};
 use rvs_yaml_text::YamlKind;
 use std::alloc::{AllocError, Global};
@@ -56,7 +57,7 @@ impl<'a, 'b> Known<'a, 'b> {
     }
 
     /// What an alias with this name stands for.
-    pub(crate) fn alias_value(&self, alloc: Global, name: &str) -> Result<Value, YamlKind>
+    pub(crate) fn alias_value(&self, alloc: Global, name: &str) -> Result<Value, Fault<YamlKind>>
         ensures given { Gives value_view result
             (spec.known_alias (spec.lookup name.now (known_view self.now))) }
         ensures refused { FailsWith result
@@ -64,7 +65,7 @@ impl<'a, 'b> Known<'a, 'b> {
     {
         match self.find(name) {
             Some(value) => Ok(formed(alloc, self.poor, value)?),
-            None => Err(YamlKind::UnknownAlias),
+            None => Err(Fault::Refused(YamlKind::UnknownAlias)),
         }
     }
 }

@@ -23,6 +23,7 @@ mod next_entries;
 mod open;
 mod open_blocks;
 mod own;
+mod printing;
 mod reach;
 mod reader;
 mod reading;
@@ -31,6 +32,7 @@ mod seen;
 mod sight;
 mod sketch;
 mod stack;
+mod taking;
 
 pub use reader::{fronts_have_trees, parse, refusals_are_least};
 pub use refusal::YamlRefusal;

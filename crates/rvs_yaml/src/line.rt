@@ -13,6 +13,7 @@ use crate::arriving::filled;
 use crate::fill::hollow_shape;
 use crate::open_blocks::OpenBlocks;
 use crate::stack::step;
+use rvs_fault::Fault;
 use rvs_yaml_text::{
     Shape, Word, YamlKind, anchored_item, behind_first, ends_indicator, is_blank, item_name,
     only_comment, shape_of, starts_with, without_spaces,
@@ -119,7 +120,7 @@ fn read_last<'a>(
     column: usize,
     item: bool,
     text: &'a str,
-) -> Result<OpenBlocks<'a>, YamlKind>
+) -> Result<OpenBlocks<'a>, Fault<YamlKind>>
     ensures { Passes open_blocks result (stack_spec.steps
         (open_blocks stack.entry) (parts.rest_words line item column text.now)) }
 {
@@ -162,7 +163,7 @@ fn read_words<'a>(
     mut stack: OpenBlocks<'a>,
     line: u64,
     text: &'a str,
-) -> Result<OpenBlocks<'a>, YamlKind>
+) -> Result<OpenBlocks<'a>, Fault<YamlKind>>
     ensures { Passes open_blocks result (stack_spec.steps
         (open_blocks stack.entry) (text_spec.words_at line false 0 text.now)) }
 {
@@ -196,7 +197,7 @@ pub(crate) fn read_line<'a>(
     line: u64,
     started: bool,
     bytes: &'a [u8],
-) -> Result<OpenBlocks<'a>, YamlKind>
+) -> Result<OpenBlocks<'a>, Fault<YamlKind>>
     ensures { Passes open_blocks result (stack_spec.steps
         (open_blocks stack.entry) (text_spec.line_words line started bytes.now)) }
 {

@@ -15,6 +15,7 @@ use crate::entry::entry_of;
 use crate::open::Done;
 use crate::reading::Pending;
 use crate::stack::{check_merge, key_at};
+use rvs_fault::Fault;
 use rvs_tree::{EntryList, Value};
 use rvs_yaml_text::{Content, Key, Word, YamlKind};
 use std::alloc::{AllocError, Global};
@@ -28,7 +29,7 @@ pub(crate) fn next_entry<'a>(
     column: usize,
     value: Value,
     word: Word<'a>,
-) -> Result<(Done, Content<'a>), YamlKind>
+) -> Result<(Done, Content<'a>), Fault<YamlKind>>
     ensures given { Gives done_content result (parts.next_entry (entries_view entries.entries.items)
         (key_view key) column (value_view value) (word_view word.entry)) }
     ensures refused { FailsWith result (parts.next_entry (entries_view entries.entries.items)
@@ -41,7 +42,7 @@ pub(crate) fn next_entry<'a>(
             drop(key);
             drop(value);
             drop(word);
-            Err(kind)
+            Err(Fault::Refused(kind))
         },
     }
 }
@@ -54,7 +55,7 @@ fn merged_entry<'a>(
     column: usize,
     value: Value,
     word: Word<'a>,
-) -> Result<(Done, Content<'a>), YamlKind>
+) -> Result<(Done, Content<'a>), Fault<YamlKind>>
     requires { block_spec.check_merge (key_view key) (value_view value) ≡ Ok tt }
     ensures given { Gives done_content result (parts.next_entry (entries_view entries.entries.items)
         (key_view key) column (value_view value) (word_view word.entry)) }
@@ -70,7 +71,7 @@ fn merged_entry<'a>(
             drop(entries);
             drop(key);
             drop(value);
-            Err(kind)
+            Err(Fault::Refused(kind))
         },
     }
 }

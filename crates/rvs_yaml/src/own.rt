@@ -12,6 +12,7 @@ ghost use Rattle.rvs_yaml_text.specs.WordView.{content_view, bracket_view};
 use crate::beginning::check_alias;
 use crate::flow_text::flow_value;
 use crate::known::Known;
+use rvs_fault::Fault;
 use rvs_tree::{Value, scalar_value};
 use rvs_yaml_text::{Content, YamlKind};
 use std::alloc::Global;
@@ -23,7 +24,7 @@ fn alias_content_value(
     known: &Known<'_, '_>,
     name: &str,
     ended: bool,
-) -> Result<Value, YamlKind>
+) -> Result<Value, Fault<YamlKind>>
     ensures given { Gives value_view result
         (block_spec.alias_value (known_view known.now) name.now ended) }
     ensures refused { FailsWith result
@@ -39,7 +40,7 @@ pub(crate) fn content_value<'a>(
     known: &Known<'a, '_>,
     line: u64,
     content: Content<'a>,
-) -> Result<Value, YamlKind>
+) -> Result<Value, Fault<YamlKind>>
     requires { known.now.poor ≡ false }
     ensures given { Gives value_view result
         (block_spec.content_value (known_view known.now) line (content_view content.entry)) }
@@ -51,6 +52,6 @@ pub(crate) fn content_value<'a>(
         Content::Text(text) => Ok(scalar_value(alloc, text, line)?),
         Content::Alias(name, ended) => alias_content_value(alloc, known, name, ended),
         Content::Flow(bracket, text) => flow_value(alloc, known, line, bracket, text),
-        Content::Faulty(kind) => Err(kind),
+        Content::Faulty(kind) => Err(Fault::Refused(kind)),
     }
 }

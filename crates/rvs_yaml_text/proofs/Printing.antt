@@ -4,7 +4,7 @@ use Rattle.std.proofs.Common.{refl, ap, ◌∙◌, append_assoc, arith}
 use Rattle.std.specs.Prelude.{◌==◌, ◌||◌, if◌then◌else◌}
 use Rattle.std.proofs.lemmas.Bool.Decides.{nat_tests}
 use Rattle.rvs_yaml_text.specs.Word.{Key, Content, text, key_token, cut_key, scalar_token}
-use Rattle.rvs_yaml_text.specs.Scalar.{onto, starts_with, only_comment}
+use Rattle.rvs_yaml_text.specs.Scalar.{starts_with, only_comment}
 use Rattle.rvs_yaml_text.specs.Scalar.{without_spaces, single, quoted_name}
 use Rattle.rvs_yaml_text.specs.Tokens.{FirstToken, is_punctuation}
 use Rattle.rvs_yaml_text.specs.Tokens.{quoted_token_before}
@@ -14,20 +14,6 @@ use Rattle.rvs_yaml_text.proofs.Quoting.{quote-end}
 
 abbrev closed : List ℕ → List ℕ → List ℕ
 closed bytes behind = doubled bytes ++ 39 ∷ behind
-
-quote-byte : (b : ℕ) (bs : List ℕ) → (b == 39) ≡ true → b ≡ 39
-quote-byte b bs e = grind (arith, nat_tests)
-
-single-other : (b : ℕ) (bs : List ℕ) → (b == 39) ≡ false → single (b ∷ bs) ≡ onto b (single bs)
-single-other b bs e = rw (e, single) refl
-
-doubled-quote : (b : ℕ) (bs behind : List ℕ) → (b == 39) ≡ true
-    → closed (b ∷ bs) behind ≡ 39 ∷ 39 ∷ closed bs behind
-doubled-quote b bs behind e = grind arith
-
-doubled-other : (b : ℕ) (bs behind : List ℕ) → (b == 39) ≡ false
-    → closed (b ∷ bs) behind ≡ b ∷ closed bs behind
-doubled-other b bs behind e = grind arith
 
 single-back : (bytes behind : List ℕ) → starts_with 39 behind ≡ false
     → single (closed bytes behind) ≡ Some (bytes, behind)
@@ -49,9 +35,6 @@ key-by t bytes behind e = grind arith
 
 keys-back : KeysReadBack
 keys-back bytes behind e = simp (quoted-back, key-by)
-
-no-quote-by : (b : ℕ) (bs : List ℕ) → only_comment false (b ∷ bs) ≡ true → (b == 39) ≡ false
-no-quote-by b bs h = grind arith
 
 no-quote : (behind : List ℕ) → only_comment false behind ≡ true → starts_with 39 behind ≡ false
 no-quote behind h = grind arith

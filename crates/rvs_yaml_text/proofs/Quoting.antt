@@ -1,6 +1,6 @@
 -- Quoted scalars, piece by piece.
 use Rattle.std.proofs.Common.{◌≡◌, ℕ, ◌+◌, ◌<◌, Bool, true, false, List, [], ◌∷◌, ◌++◌, length}
-use Rattle.std.proofs.Common.{take, drop, get_or, Option, Some, None, option_map, refl, sym, ap}
+use Rattle.std.proofs.Common.{take, drop, get_or, Some, None, refl, sym, ap}
 use Rattle.std.proofs.Common.{◌∙◌, append-nil, append_assoc, arith, rules}
 use Rattle.std.proofs.lemmas.Bool.Decides.{nat_tests}
 use Rattle.std.specs.Prelude.{◌==◌, ◌||◌}
@@ -30,18 +30,9 @@ abbrev then_quote : Split → Split
 then_quote None = None
 then_quote (Some p) = onto_all p.0 (behind_quote p.1)
 
-onto_nil : (o : Split) → onto_all [] o ≡ o
-onto_nil o = grind arith
-
-onto-onto_all : (b : ℕ) (xs : List ℕ) (o : Split) → onto b (onto_all xs o) ≡ onto_all (b ∷ xs) o
-onto-onto_all b xs o = grind arith
-
 onto_all-onto_all : (xs ys : List ℕ) (o : Split)
     → onto_all xs (onto_all ys o) ≡ onto_all (xs ++ ys) o
 onto_all-onto_all xs ys o = search (rules, append_assoc)
-
-onto-quote : (b : ℕ) (o : Split) → onto b (then_quote o) ≡ then_quote (onto b o)
-onto-quote b o = grind arith
 
 single-by : (t : Bool) (b : ℕ) (bs : List ℕ) → single bs ≡ then_quote (at_byte 39 bs) →
     (elim t as (λ _. Split) [ true ↦ behind_quote bs | false ↦ onto b (single bs) ])
@@ -92,15 +83,8 @@ abbrev then_stop : Split → Split
 then_stop None = None
 then_stop (Some p) = onto_all p.0 (double p.1)
 
-onto-stop : (b : ℕ) (o : Split) → onto b (then_stop o) ≡ then_stop (onto b o)
-onto-stop b o = grind arith
-
 or_parts : (x y : Bool) → (x || y) ≡ false → (x ≡ false) × (y ≡ false)
 or_parts x y h = grind arith
-
-double-more : (b : ℕ) (bs : List ℕ) → (b == 34) ≡ false → (b == 92) ≡ false
-    → double (b ∷ bs) ≡ onto b (double bs)
-double-more b bs h k = rw (h, double) (rw (k, double) refl)
 
 double-split : (bs : List ℕ) → double bs ≡ then_stop (at_stop bs)
 double-split [] = refl
@@ -125,21 +109,9 @@ double-found done text rest piece behind inv e q =
     ∙ sym (ap (λ o. onto_all done (onto_all piece o)) (double-quote behind q))
     ∙ sym (ap (onto_all done) (double-piece rest piece behind e)) ∙ inv
 
-onto_one : (c : ℕ) (o : Split) → onto c o ≡ onto_all (c ∷ []) o
-onto_one c o = grind arith
-
-escaped-text : (o : Option ℕ) (xs : List ℕ) (bs : List ℕ) → Some xs ≡ option_map (λ c. c ∷ []) o
-    → (elim o as (λ _. Split) [ None ↦ None | Some c ↦ onto c (double bs) ])
-    ≡ onto_all xs (double bs)
-escaped-text o xs bs e = grind arith
-
 backslash-text : (bs xs : List ℕ) → Some xs ≡ escape bs
     → behind_backslash bs ≡ onto_all xs (double (drop 1 bs))
 backslash-text bs xs e = grind arith
-
-escaped-none : (o : Option ℕ) (bs : List ℕ) → None ≡ option_map (λ (c : ℕ). c ∷ []) o
-    → (elim o as (λ _. Split) [ None ↦ None | Some c ↦ onto c (double bs) ]) ≡ None
-escaped-none o bs e = grind arith
 
 backslash-none : (bs : List ℕ) → None ≡ escape bs → behind_backslash bs ≡ None
 backslash-none bs e = grind arith

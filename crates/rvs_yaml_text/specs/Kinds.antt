@@ -5,7 +5,7 @@ use Rattle.rvs_yaml_text.specs.declared.kind.YamlKind.TheVariants.{NotUtf8, TabI
 use Rattle.rvs_yaml_text.specs.declared.kind.YamlKind.TheVariants.{BadScalar, BadFlow, DuplicateKey}
 use Rattle.rvs_yaml_text.specs.declared.kind.YamlKind.TheVariants.{UnknownAlias, BadMerge}
 use Rattle.rvs_yaml_text.specs.declared.kind.YamlKind.TheVariants.{Unsupported, TooDeep}
-use Rattle.rvs_yaml_text.specs.declared.kind.YamlKind.TheVariants.{TooManyNodes, NoMemory}
+use Rattle.rvs_yaml_text.specs.declared.kind.YamlKind.TheVariants.{TooManyNodes}
 
 abbrev pub number_of : YamlKind → ℕ
 number_of NotUtf8 = 1
@@ -19,4 +19,3 @@ number_of BadMerge = 8
 number_of Unsupported = 9
 number_of TooDeep = 10
 number_of TooManyNodes = 11
-number_of NoMemory = 12

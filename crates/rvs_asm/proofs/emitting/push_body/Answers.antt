@@ -1,4 +1,4 @@
-use Rattle.std.proofs.Common.{◌≡◌, List, ℕ, sym, subst, arith}
+use Rattle.std.proofs.Common.{List, ℕ, sym, subst, arith}
 use Rattle.rvs_asm_text.specs.declared.bodies.Body.{Body}
 use Rattle.rvs_asm_text.specs.declared.bodies.Body.TheVariants.{Values}
 use Rattle.rvs_asm.specs.Locations.{IsLocation, next}

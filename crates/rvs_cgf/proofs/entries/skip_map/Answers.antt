@@ -19,13 +19,13 @@ loop-i-preserved c =
     ∙ c.loop-i.invariant
 
 pub returns-in-Err : goal.returns-in-Err
-returns-in-Err c = λ k.
+returns-in-Err c = λ refusal is.
     let at = place_view c.args.place in
     let f = skipped_entry in
     let entry = view c.item.result.now in
     let t = taken_view c.loop-i.taken in
     sym c.loop-i.invariant
     ∙ each-fails (under at f) (view c.args.entries.now) c.loop-i.i c.key.result.now entry t
-    (refusal_view c.in-Err.why) c.requires c.key.ensures c.item.ensures
+    (refusal_view refusal) c.requires c.key.ensures c.item.ensures
     (at-place f at (place_view c.at_key.result) c.key.result.now entry t _ c.at_key.ensures
-    (c.in-Err.ensures k))
+    (c.in-Err.ensures refusal is))

@@ -17,11 +17,11 @@ loop-j-preserved c =
     ∙ c.loop-j.invariant
 
 pub returns-in-Err : goal.returns-in-Err
-returns-in-Err c = λ k.
+returns-in-Err c = λ refusal is.
     let a = ranged_view c.args.a.now in
     let b = ranged_view c.args.b.now in
     let below : c.loop-j.j < count_of a =
     omega (arith, c.loop-j-test.true, c.len-j-end.ensures) in
     sym c.loop-j.invariant
     ∙ step-fails (with_jth (place_view c.args.place) a b) (count_of a) c.loop-j.j
-    (taken_view c.loop-j.taken) (refusal_view c.in-Err.why) below (c.in-Err.ensures k)
+    (taken_view c.loop-j.taken) (refusal_view refusal) below (c.in-Err.ensures refusal is)

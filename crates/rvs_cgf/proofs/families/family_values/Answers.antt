@@ -16,10 +16,10 @@ loop-k-preserved c =
     ∙ c.loop-k.invariant
 
 pub returns-in-Err : goal.returns-in-Err
-returns-in-Err c = λ k.
+returns-in-Err c = λ refusal is.
     let f = ranged_view c.args.f.now in
     let below : c.loop-k.k < count_of f =
     omega (arith, c.loop-k-test.true, c.len-k-end.ensures) in
     sym c.loop-k.invariant
     ∙ step-fails (add_kth (place_view c.args.place) f) (count_of f) c.loop-k.k
-    (taken_view c.loop-k.taken) (refusal_view c.in-Err.why) below (c.in-Err.ensures k)
+    (taken_view c.loop-k.taken) (refusal_view refusal) below (c.in-Err.ensures refusal is)

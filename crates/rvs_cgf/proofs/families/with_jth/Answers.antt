@@ -17,11 +17,11 @@ loop-k-preserved c =
     ∙ c.loop-k.invariant
 
 pub returns-in-Err : goal.returns-in-Err
-returns-in-Err c = λ k.
+returns-in-Err c = λ refusal is.
     let a = ranged_view c.args.a.now in
     let b = ranged_view c.args.b.now in
     let below : c.loop-k.k < count_of b =
     omega (arith, c.loop-k-test.true, c.len-k-end.ensures) in
     sym c.loop-k.invariant
     ∙ step-fails (add_pair (place_view c.args.place) a b c.args.j) (count_of b) c.loop-k.k
-    (taken_view c.loop-k.taken) (refusal_view c.in-Err.why) below (c.in-Err.ensures k)
+    (taken_view c.loop-k.taken) (refusal_view refusal) below (c.in-Err.ensures refusal is)

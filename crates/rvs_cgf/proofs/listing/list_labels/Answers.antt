@@ -14,9 +14,9 @@ loop-i-preserved c =
     ∙ c.loop-i.invariant
 
 pub returns-in-Err : goal.returns-in-Err
-returns-in-Err c = λ k.
+returns-in-Err c = λ refusal is.
     sym c.loop-i.invariant
     ∙ each-fails (label_step c.args.isa.now c.args.families) (view c.args.root.now) c.loop-i.i
     c.key.result.now
-    (view c.item.result.now) (listed_view c.loop-i.listed) (refusal_view c.in-Err.why)
-    c.requires c.key.ensures c.item.ensures (c.in-Err.ensures k)
+    (view c.item.result.now) (listed_view c.loop-i.listed) (refusal_view refusal)
+    c.requires c.key.ensures c.item.ensures (c.in-Err.ensures refusal is)

@@ -19,11 +19,11 @@ loop-i-preserved c =
     c.requires c.key.ensures c.item.ensures (c.in-Ok.ensures s.listed s.is)
 
 pub returns-in-Err : goal.returns-in-Err
-returns-in-Err c = λ k.
+returns-in-Err c = λ refusal is.
     let s = c.loop-i.invariant in
     stands-fails c.args.isa.now c.args.families (view c.args.root.now) c.loop-i.i c.key.result.now
-    (view c.item.result.now) (written_view c.loop-i.written) (refusal_view c.in-Err.why) s
-    c.requires c.key.ensures c.item.ensures (c.in-Err.ensures s.listed s.is k)
+    (view c.item.result.now) (written_view c.loop-i.written) (refusal_view refusal) s
+    c.requires c.key.ensures c.item.ensures (c.in-Err.ensures s.listed s.is refusal is)
 
 pub returns : goal.returns
 returns c =

@@ -1,4 +1,3 @@
-use Rattle.std.proofs.Common.{◌+◌, length, arith}
 use Rattle.rvs_base.specs.Lines.{cut_lines}
 use Rattle.rvs_asm.proofs.TextLines.{first_is}
 use Rattle.rvs_crate_tests.proofs.asm.given_lines.Goals as goal

@@ -39,7 +39,6 @@ loop-label-preserved c =
           (sym (map-append (λ (t : Test). Held t) (tests_of_label isa label) (tests_of isa rest)))
           ∙ ap (λ (ls : List Label). c.loop-label.tests ++ held (tests_of isa ls)) (sym here)
           ∙ c.loop-label.invariant.tests;
-      runs = c.in_ok-gather_label.ensures.runs c.loop-label.invariant.runs;
     }
 
 pub returns-clause-said : goal.returns-clause-said

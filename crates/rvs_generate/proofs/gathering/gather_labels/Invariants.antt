@@ -1,8 +1,8 @@
-use Rattle.std.proofs.Common.{◌≡◌, ◌++◌, All, drop, flat_map}
+use Rattle.std.proofs.Common.{◌≡◌, ◌++◌, drop, flat_map}
 use Rattle.rvs_inputs.specs.GroupsView.{groups_view}
 use Rattle.rvs_generate.specs.GenerateTexts.{none, label_text, with_labels}
 use Rattle.rvs_generate.specs.GenerateView.{totals_view}
-use Rattle.rvs_generate.specs.Tests.{IsReady, held, tests_of}
+use Rattle.rvs_generate.specs.Tests.{held, tests_of}
 use Rattle.rvs_generate.proofs.gathering.gather_labels.Given as goal
 
 -- what the rest of the labels comes to is what all of them come to
@@ -14,5 +14,4 @@ invariant-loop-label l = record {
       ≡ with_labels l.isa none (groups_view l.labels);
   tests : l.tests ++ held (tests_of l.isa (groups_view (drop l.label-index l.labels)))
       ≡ held (tests_of l.isa (groups_view l.labels));
-  runs : All (IsReady l.isa) l.tests;
 }

@@ -19,8 +19,8 @@ totals_are isa l m t is = λ i. with_made t l (is.claims i) (is.unsolved i) (is.
 pub returns-clause-text : goal.returns-clause-text
 returns-clause-text c = c.in_ok-push_made.ensures ∙ ap (λ (t : List ℕ). c.args.said.now.text ++ t)
     (text_is c.args.isa.now (label_view c.args.label.now) c.in_ok-made.made
-    c.in_ok-made.ensures.made)
+    c.in_ok-made.ensures)
 
 pub returns-clause-totals : goal.returns-clause-totals
 returns-clause-totals c = c.add.ensures ∙ totals_are c.args.isa.now (label_view c.args.label.now)
-    c.in_ok-made.made _ c.in_ok-made.ensures.made
+    c.in_ok-made.made _ c.in_ok-made.ensures

@@ -3,7 +3,6 @@ use Rattle.std.specs.Prelude.{find, option_map}
 use Rattle.std.proofs.lemmas.Result.{err_from_is_err_and}
 use Rattle.rvs_plan.specs.Plan.{Ends}
 use Rattle.rvs_plan.proofs.Sequence.{Meets-no_memory}
-use Rattle.rvs_points.specs.declared.group.Label.{Label as Code}
 use Rattle.rvs_generate.specs.TestedInputs.{lacks_room, no_room, with_room}
 use Rattle.rvs_inputs.specs.GroupsView.{groups_view, inputs_view}
 use Rattle.rvs_inputs.proofs.Accepting.{Meets-accepted_by, Meets-refused_by}
@@ -29,7 +28,8 @@ returns-in-None-clause-testable c =
     let found = find (lacks_room inputs.isa) (groups_view inputs.groups) in
     let said : None ≡ option_map no_room found =
     rw (c.as_slice.ensures, c.in-None.is) at c.in_ok-first_lacking.ensures in
-    code-testable inputs.isa inputs.groups c.requires (none-found found said)
+    code-testable inputs.isa inputs.groups c.memory_has_room.ensures c.requires
+    (none-found found said)
 
 pub returns-in-Some-clause-met : goal.returns-in-Some-clause-met
 returns-in-Some-clause-met c = λ w.

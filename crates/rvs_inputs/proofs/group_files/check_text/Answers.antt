@@ -1,40 +1,33 @@
-use Rattle.std.proofs.Common.{◌≡◌, ◌∙◌, List, Result, Ok, Err, ap, sym, subst}
+use Rattle.std.proofs.Common.{◌≡◌, ◌∙◌, Ok, ap, refl, sym, subst}
 use Rattle.std.proofs.lemmas.Result.{err_from_is_err_and}
+use Rattle.rvs_fault.specs.Answers.{AnswersAs}
 use Rattle.rvs_plan.specs.Plan.{Ends}
 use Rattle.rvs_plan.specs.Meets.{Meets}
-use Rattle.rvs_plan.proofs.Sequence.{Meets-no_memory}
-use Rattle.rvs_plan.specs.declared.stop.Stop.{Stop}
-use Rattle.rvs_plan.specs.declared.stop.Stop.TheVariants.{Refused}
 use Rattle.rvs_tree.specs.TreeView.{view}
 use Rattle.rvs_yaml.specs.Parsed.{Parsed, answer}
-use Rattle.rvs_cgf.specs.Groups.{Label}
-use Rattle.rvs_inputs.proofs.Accepting.{Meets-refused, refused-is}
-use Rattle.rvs_inputs.specs.Seen.{seen}
+use Rattle.rvs_yaml.specs.Refusing.{refusal_text, refusal_view}
 use Rattle.rvs_inputs.specs.GroupsView.{groups_view}
-use Rattle.rvs_inputs.specs.GroupFiles.{tree_groups, groups_found}
+use Rattle.rvs_inputs.specs.Seen.{seen}
+use Rattle.rvs_inputs.specs.GroupFiles.{tree_groups}
+use Rattle.rvs_inputs.specs.GroupTexts.{groups_name}
+use Rattle.rvs_inputs.proofs.Accepting.{accepted-is, Meets-unaccepted}
 use Rattle.rvs_inputs.proofs.group_files.check_text.Goals as goal
 
-pub returns-in_err-yaml_text-in-Err-clause-met : goal.returns-in_err-yaml_text-in-Err-clause-met
-returns-in_err-yaml_text-in-Err-clause-met c = λ w.
+pub returns-in_err-tree-clause-met : goal.returns-in_err-tree-clause-met
+returns-in_err-tree-clause-met c = λ w.
     let p = err_from_is_err_and c.from_residual.result c.from_residual.ensures.1 in
-    rw (p.1, p.2)
-    (Meets-no_memory (Ends (groups_found c.args.isa.now c.args.families c.args.text)) w)
+    rw (p.1, p.2) (Meets-unaccepted view refusal_view refusal_text groups_name
+    (λ (a : Parsed). tree_groups c.args.isa.now c.args.families a) (answer c.args.text) _ _ w
+    (λ refusal. refl)
+    (subst (AnswersAs view refusal_view c.parse.result) (ap answer c.as_slice.ensures)
+    c.parse.ensures.read) c.in_err-tree.ensures)
 
-pub returns-in-Ok-clause-met : goal.returns-in-Ok-clause-met
-returns-in-Ok-clause-met c = λ w.
-    let read : answer c.args.text ≡ Ok (view c.in-Ok.tree) =
-    ap answer (sym c.as_slice.ensures) ∙ c.in-Ok.ensures.tree in
-    subst (λ (a : Parsed). Meets (Ends (tree_groups c.args.isa.now c.args.families a)) w w
+pub returns-clause-met : goal.returns-clause-met
+returns-clause-met c = λ w.
+    let read : answer c.args.text ≡ Ok (view c.in_ok-tree.tree) =
+    ap answer (sym c.as_slice.ensures)
+    ∙ accepted-is view refusal_view refusal_text groups_name (answer c.as_slice.result.now) _
+    c.in_ok-tree.tree c.parse.ensures.read c.in_ok-tree.ensures in
+    subst (λ (a : Parsed). Meets
+    (Ends (tree_groups c.args.isa.now c.args.families a)) w w
     (seen groups_view c.check_tree.result)) (sym read) (c.check_tree.ensures.met w)
-
-pub returns-in_ok-yaml_text-in-Err-clause-met : goal.returns-in_ok-yaml_text-in-Err-clause-met
-returns-in_ok-yaml_text-in-Err-clause-met c = λ w.
-    let text = c.in_ok-yaml_text-in-Err.field-0 in
-    let refusal = c.in-Err.refusal in
-    let is = refused-is refusal.kind refusal.line (answer c.as_slice.result.now)
-    c.in_ok-yaml_text-in-Err.ensures.fault c.in-Err.ensures.refused in
-    let found : Err (Refused text) ≡ groups_found c.args.isa.now c.args.families c.args.text =
-    ap (λ t. Err (Refused t)) c.in_ok-yaml_text-in-Err.ensures.text
-    ∙ ap (tree_groups c.args.isa.now c.args.families) (sym is ∙ ap answer c.as_slice.ensures) in
-    subst (λ (r : Result (List Label) Stop). Meets (Ends r) w w (Err (Refused text))) found
-    (Meets-refused text w)

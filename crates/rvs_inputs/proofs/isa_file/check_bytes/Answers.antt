@@ -1,22 +1,25 @@
-use Rattle.std.proofs.Common.{rules, sym, subst}
+use Rattle.std.proofs.Common.{refl, sym, subst}
 use Rattle.std.proofs.lemmas.Result.{err_from_is_err_and}
 use Rattle.rvs_plan.specs.Plan.{Ends}
 use Rattle.rvs_plan.specs.Meets.{Meets}
-use Rattle.rvs_plan.proofs.Sequence.{Meets-no_memory}
-use Rattle.rvs_yaml.specs.Parsed.{Parsed}
-use Rattle.rvs_inputs.specs.Specification.{tree_end, checks}
-use Rattle.rvs_inputs.proofs.Accepting.{Meets-refused_by}
+use Rattle.rvs_tree.specs.TreeView.{view}
+use Rattle.rvs_yaml.specs.Parsed.{Parsed, answer}
+use Rattle.rvs_yaml.specs.Refusing.{refusal_text, refusal_view}
+use Rattle.rvs_inputs.specs.Specification.{tree_end}
+use Rattle.rvs_inputs.proofs.Accepting.{accepted-is, Meets-unaccepted}
 use Rattle.rvs_inputs.proofs.isa_file.check_bytes.Goals as goal
 
-pub returns-in_err-yaml_text-in-Err : goal.returns-in_err-yaml_text-in-Err
-returns-in_err-yaml_text-in-Err c = λ w.
+pub returns-in_err-tree : goal.returns-in_err-tree
+returns-in_err-tree c = λ w.
     let p = err_from_is_err_and c.from_residual.result c.from_residual.ensures.1 in
-    rw (p.1, p.2) (Meets-no_memory (checks c.args.name.now c.args.bytes.now) w)
+    rw (p.1, p.2) (Meets-unaccepted view refusal_view refusal_text c.args.name.now
+    (tree_end c.args.name.now) (answer c.args.bytes.now) _ _ w (λ refusal. refl)
+    c.parse.ensures.read c.in_err-tree.ensures)
 
-pub returns-in-Ok : goal.returns-in-Ok
-returns-in-Ok c = λ w. subst
-    (λ (a : Parsed). Meets (Ends (tree_end c.args.name.now a)) w w c.check_tree.result)
-    (sym c.in-Ok.ensures.tree) (c.check_tree.ensures w)
-
-pub returns-in_ok-yaml_text-in-Err : goal.returns-in_ok-yaml_text-in-Err
-returns-in_ok-yaml_text-in-Err c = λ w. Meets-refused_by _ _ w (search rules)
+pub returns : goal.returns
+returns c = λ w. subst
+    (λ (a : Parsed). Meets (Ends (tree_end c.args.name.now a)) w w
+    c.check_tree.result)
+    (sym (accepted-is view refusal_view refusal_text c.args.name.now
+    (answer c.args.bytes.now) _ c.in_ok-tree.tree c.parse.ensures.read c.in_ok-tree.ensures))
+    (c.check_tree.ensures w)

@@ -5,7 +5,7 @@ use Rattle.rvs_plan.specs.Meets.{MeetsWith}
 use Rattle.rvs_cgf.specs.GroupView.{label_view}
 use Rattle.rvs_test.specs.Made.{text_of_label}
 use Rattle.rvs_report.specs.Report.{shows_by}
-use Rattle.rvs_report.specs.Showing.{shown_unselected}
+use Rattle.rvs_showing.specs.Showing.{shown_unselected}
 use Rattle.rvs_report.proofs.reporting.show_label.Goals as goal
 
 pub returns-then-label : goal.returns-then-label

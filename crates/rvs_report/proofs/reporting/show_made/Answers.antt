@@ -1,4 +1,4 @@
-use Rattle.std.proofs.Common.{◌≡◌, List, [], ℕ, Option, Some, None, IfSome, Result, sym, subst, ◌∙◌}
+use Rattle.std.proofs.Common.{◌≡◌, List, [], ℕ, Option, Some, None, Result, sym, subst, rules, ◌∙◌}
 use Rattle.std.proofs.lemmas.Result.{err_from_is_err_and}
 use Rattle.rvs_plan.specs.World.{World, world, IsAnswer}
 use Rattle.rvs_plan.specs.Plan.{gives}
@@ -10,15 +10,13 @@ use Rattle.rvs_cgf.specs.Groups.{Label}
 use Rattle.rvs_cgf.specs.GroupView.{label_view}
 use Rattle.rvs_page.specs.declared.shown.State.TheVariants as state
 use Rattle.rvs_page.specs.declared.shown.Label.{Label as ShownLabel}
-use Rattle.rvs_test.specs.Claimed.{TestRuns}
 use Rattle.rvs_test.specs.Made.{claims_of, text_of_label}
 use Rattle.rvs_test.specs.declared.made.Made.{Made}
 use Rattle.rvs_test_text.specs.declared.claim.Claim.{Claim}
 use Rattle.rvs_report.specs.Findings.{found_open}
 use Rattle.rvs_generate.specs.GenerateView.{IsMade}
 use Rattle.rvs_report.specs.Report.{shows_test, shows_by}
-use Rattle.rvs_report.specs.Showing.{shown_label}
-use Rattle.rvs_generate.specs.Tests.{IsRunnable}
+use Rattle.rvs_showing.specs.Showing.{shown_label}
 use Rattle.rvs_generate.specs.declared.gathering.Test.{Test}
 use Rattle.rvs_generate.proofs.Runnable.{runnable}
 use Rattle.rvs_report.proofs.reporting.show_made.Goals as goal
@@ -52,13 +50,6 @@ tested isa work counts text l m test old new result is some this met =
     (subst (λ (t : Test). MeetsWith IsAnswer (shows_test isa work counts m.claims l t) old new
     result) this met)))
 
-runs_test : (isa : Isa) (l : Label) (m : Made) (text : List ℕ) (test : Test)
-    → IfSome m.text (λ t. TestRuns isa l t m.claims m.steps) → m.text ≡ Some text
-    → test ≡ record { name = l.name; text = text; steps = m.steps } → IsRunnable isa test
-runs_test isa l m text test runs some this = subst (λ (t : Test). IsRunnable isa t) (sym this)
-    (runnable isa l l.name text m.claims m.steps
-    (subst (λ (o : Option (List ℕ)). IfSome o (λ t. TestRuns isa l t m.claims m.steps)) some runs))
-
 pub returns-in-None : goal.returns-in-None
 returns-in-None g c = λ out.
     let w = world (g.H.Host.state c.args.host.now) out in
@@ -81,5 +72,6 @@ returns g c = λ out.
 
 pub show_test-requires : goal.show_test-requires
 show_test-requires g c =
-    runs_test c.args.isa (label_view c.args.label.now) c.args.made c.in-Some.text
-    c.in_ok-test-in-Some.test c.requires.runs c.in-Some.is c.in_ok-test-in-Some.ensures
+    let runs = runnable c.args.isa (label_view c.args.label.now) c.in-Some.text
+    c.requires.testable (sym c.requires.made.text ∙ c.in-Some.is) in
+    search rules

@@ -8,8 +8,8 @@ use Rattle.rvs_cgf.specs.Groups.{Label}
 use Rattle.rvs_cgf.specs.GroupView.{label_view}
 use Rattle.rvs_page.specs.declared.shown.Label.{Label as ShownLabel}
 use Rattle.rvs_test_text.specs.declared.claim.Claim.{Claim}
-use Rattle.rvs_report.specs.Showing.{shown_label}
-use Rattle.rvs_report.specs.declared.reviewing.Found.{Found}
+use Rattle.rvs_showing.specs.Showing.{shown_label}
+use Rattle.rvs_showing.specs.declared.found.Found.{Found}
 use Rattle.rvs_report.proofs.reporting.show_test.Goals as goal
 
 -- what follows when it is known what is found

@@ -6,7 +6,7 @@ use Rattle.rvs_plan.specs.Meets.{MeetsWith}
 use Rattle.rvs_plan.proofs.Sequence.{Meets-gives, Meets-no_memory}
 use Rattle.rvs_cgf.specs.GroupView.{label_view}
 use Rattle.rvs_page.specs.declared.shown.Label.{Label as ShownLabel}
-use Rattle.rvs_report.specs.Showing.{shown_unselected}
+use Rattle.rvs_showing.specs.Showing.{shown_unselected}
 use Rattle.rvs_report.proofs.reporting.show_unselected.Goals as goal
 
 pub returns-in_err-shown : goal.returns-in_err-shown

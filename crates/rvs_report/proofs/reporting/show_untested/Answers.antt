@@ -8,8 +8,8 @@ use Rattle.rvs_cgf.specs.GroupView.{label_view}
 use Rattle.rvs_page.specs.declared.shown.State.TheVariants as state
 use Rattle.rvs_page.specs.declared.shown.Label.{Label as ShownLabel}
 use Rattle.rvs_report.specs.Findings.{found_open}
-use Rattle.rvs_report.specs.Showing.{shown_label}
-use Rattle.rvs_report.specs.declared.reviewing.Found.{Found}
+use Rattle.rvs_showing.specs.Showing.{shown_label}
+use Rattle.rvs_showing.specs.declared.found.Found.{Found}
 use Rattle.rvs_report.proofs.reporting.show_untested.Goals as goal
 
 pub returns-in_err-shown : goal.returns-in_err-shown

@@ -11,7 +11,7 @@ use Rattle.rvs_reference.specs.TestRun.{NamesText}
 use Rattle.rvs_generate.specs.TestFiles.{files_of}
 use Rattle.rvs_report.specs.Findings.{found_open, asks_like, if_like, finds_words, finds_test}
 use Rattle.rvs_generate.specs.declared.gathering.Test.{Test}
-use Rattle.rvs_report.specs.declared.reviewing.Found.{Found}
+use Rattle.rvs_showing.specs.declared.found.Found.{Found}
 use Rattle.rvs_report.specs.declared.reviewing.Likeness.{Likeness}
 use Rattle.rvs_generate.specs.declared.test_files.TestFiles.{TestFiles}
 use Rattle.rvs_generate.proofs.Paths.{names-text}

@@ -36,10 +36,10 @@ returns g c = λ out.
     let files = files_at bench.work c.args.given.now.place c.args.given.now.name in
     let w = world (g.H.Host.state c.read_input.new.host) out in
     let plan = λ (bytes : List ℕ). accepted (made_found bench files bytes) in
-    let result = c.made_of.result in
+    let result = c.made_found.result in
     let found = made_found bench c.in_ok-files.files c.as_slice.result.now in
     let one = subst (λ (own : TestFiles). Meets (accepted (made_found bench own
     c.as_slice.result.now)) w w result) c.in_ok-files.ensures
-    (Meets-accepts found result w c.made_of.ensures) in
+    (Meets-accepts found result w c.made_found.ensures) in
     let last = subst (λ (bytes : List ℕ). Meets (plan bytes) w w result) c.as_slice.ensures one in
     Meets-then plan (rw c.as_str.ensures at (c.in_ok-bytes.ensures out)) last

@@ -1,4 +1,4 @@
-use Rattle.std.proofs.Common.{◌≡◌, ◌∙◌, List, ℕ, subst}
+use Rattle.std.proofs.Common.{◌≡◌, ◌∙◌, List, ℕ, subst, rules}
 use Rattle.std.proofs.lemmas.Result.{err_from_is_err_and}
 use Rattle.rvs_plan.specs.World.{world, IsAnswer}
 use Rattle.rvs_plan.specs.Plan.{Plan, gives, ◌>>=◌}
@@ -15,6 +15,7 @@ use Rattle.rvs_inputs.specs.DeviceInput.{device_file}
 use Rattle.rvs_generate.specs.Tests.{tests_of, held}
 use Rattle.rvs_run.specs.RunTests.{Bench, judges_tests, RunInputs, bench_of, runs}
 use Rattle.rvs_generate.specs.declared.sources.Source.{Source}
+use Rattle.rvs_generate.proofs.Runnable.{all-ready}
 use Rattle.rvs_run.proofs.run.run_tests.Goals as goal
 
 abbrev with_device : Inputs → Told → Plan RunInputs
@@ -94,6 +95,12 @@ returns-in_err-print g c =
     (Meets-then (with_device inputs) (c.in_ok-device.ensures out)
     (Meets-gives (inputs_with inputs device) w)))
     (Meets-stop (judging bench inputs) (rw line at (c.in_err-print.ensures host)))))
+
+pub judge_tests-requires : goal.judge_tests-requires
+judge_tests-requires g c =
+    let inputs = c.in_ok-inputs.inputs in
+    let ready = all-ready inputs.isa inputs.groups c.in_ok-inputs.ensures.testable in
+    search rules
 
 pub returns : goal.returns
 returns g c =

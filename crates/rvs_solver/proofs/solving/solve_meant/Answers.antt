@@ -2,7 +2,7 @@ use Rattle.std.proofs.Common.{◌≡◌, ◌∙◌, ◌≤◌, ◌+◌, sym, sub
 use Rattle.std.specs.Prelude.{IfSome, IfNone, IfOk, option_map}
 use Rattle.rvs_points.specs.Points.{Meaning}
 use Rattle.rvs_points.specs.PointView.{point_view}
-use Rattle.rvs_solver.specs.declared.solved.Solved.TheVariants.{One}
+use Rattle.rvs_choice.specs.declared.solved.Solved.TheVariants.{One}
 use Rattle.rvs_solver.specs.First.{first_choice, Solvable}
 use Rattle.rvs_solver.specs.Solving.{first_meant, SolvesAs, IsLeastChoice, IsSolvableAs}
 use Rattle.rvs_solver.specs.Solving.{bound_meant}

@@ -1,4 +1,4 @@
-use Rattle.std.proofs.Common.{◌≡◌, [], ◌∷◌, ◌++◌, ◌∙◌, ap}
+use Rattle.std.proofs.Common.{[], ◌∷◌, ◌++◌, ◌∙◌, ap}
 use Rattle.std.specs.Prelude.{unwrap_or}
 use Rattle.rvs_solver.specs.Choices.{ChoiceValue, fields_of}
 use Rattle.rvs_test_text.specs.declared.statement.Name.TheVariants.{Case, Scratch}

@@ -1,8 +1,7 @@
-use Rattle.std.proofs.Common.{◌≡◌, ◌≤◌, ◌∙◌, List, length, true, sym, ap, subst}
+use Rattle.std.proofs.Common.{◌≤◌, ◌∙◌, List, length, true, sym, ap, subst}
 use Rattle.rvs_points.specs.PointView.{label_view}
-use Rattle.rvs_solver.specs.declared.solved.Solved.{Solved}
+use Rattle.rvs_choice.specs.declared.solved.Solved.{Solved}
 use Rattle.rvs_test_text.specs.Claim.{AreReady}
-use Rattle.rvs_test.specs.Made.{cases_of}
 use Rattle.rvs_test.proofs.Ends.{same_length}
 use Rattle.rvs_test.proofs.Enough.{large_enough}
 use Rattle.rvs_test.proofs.Solvings.{cases_ready, cases_few}

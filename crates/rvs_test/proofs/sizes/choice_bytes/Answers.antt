@@ -1,4 +1,4 @@
-use Rattle.std.proofs.Common.{◌≡◌, ◌∙◌, ap}
+use Rattle.std.proofs.Common.{◌∙◌, ap}
 use Rattle.rvs_insn.specs.Table.{row}
 use Rattle.rvs_insn.specs.declared.op.Format.TheVariants.{Store, Amo, LoadReserved}
 use Rattle.rvs_solver.specs.Choices.{ChoiceValue}

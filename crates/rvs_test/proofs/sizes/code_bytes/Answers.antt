@@ -1,6 +1,6 @@
 use Rattle.std.proofs.Common.{◌≡◌, ◌≤◌, ◌+◌, ◌*◌, ◌∙◌, List, take, ap, sym, arith}
 use Rattle.std.proofs.lemmas.List.{take_all}
-use Rattle.rvs_solver.specs.declared.solved.Solved.{Solved}
+use Rattle.rvs_choice.specs.declared.solved.Solved.{Solved}
 use Rattle.rvs_test_text.specs.TestText.{bytes_all, cases, case_statements, last_register}
 use Rattle.rvs_test.proofs.Enough.{bytes_more, case_at_low, code_is}
 use Rattle.rvs_test.proofs.sizes.code_bytes.Goals as goal

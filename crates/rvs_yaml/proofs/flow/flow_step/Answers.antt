@@ -4,7 +4,7 @@ use Rattle.rvs_yaml.specs.FlowSteps.{flow_step}
 use Rattle.rvs_yaml.specs.FlowView.{reading_view}
 use Rattle.rvs_yaml.specs.StackView.{known_view}
 use Rattle.rvs_yaml_text.specs.TokenView.{token_view}
-use Rattle.rvs_yaml.proofs.Giving.{agrees_gives, agrees_fails}
+use Rattle.rvs_yaml.proofs.Giving.{decides_gives, decides_fails}
 use Rattle.rvs_yaml.proofs.flow.flow_step.Goals as goal
 
 pub returns-in-Whole : goal.returns-in-Whole
@@ -16,6 +16,6 @@ returns-in-Whole c =
     let h = c.behind_whole.ensures a.known.now.poor known a.line (value_view c.in-Whole.value)
     c.in-Whole.field-1 in
     record {
-      given = agrees_gives _ _ _ _ (sym e) h;
-      refused = λ kind is. agrees_fails reading_view _ _ h kind (sym e ∙ is);
+      given = decides_gives _ _ _ _ (sym e) h;
+      refused = λ kind is. decides_fails reading_view _ _ h kind (sym e ∙ is);
     }

@@ -24,8 +24,8 @@ returns-in-Err c =
     let place = place_view c.args.place in
     let name = c.args.name.now in
     record {
-      given = rw c.refused.ensures (fails_to c.in-Err.kind (alias_at known place name)
-          (with_alias known place name) (alias-fails known place name c.in-Err.kind)
+      given = rw c.refused.ensures (fails_to c.in-Err.fault (alias_at known place name)
+          (with_alias known place name) (alias-fails known place name)
           c.in-Err.ensures.given);
       refused = rw c.refused.ensures (fails_earlier _ _ _ (alias-before known place name)
           c.in-Err.ensures.refused);

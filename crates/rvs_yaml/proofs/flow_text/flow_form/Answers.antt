@@ -7,7 +7,7 @@ use Rattle.rvs_yaml.specs.FlowSteps.{flow_steps}
 use Rattle.rvs_yaml.specs.FlowParts.{ended}
 use Rattle.rvs_yaml.specs.StackView.{known_view}
 use Rattle.rvs_yaml.specs.FlowView.{reading_view, flowing_view}
-use Rattle.rvs_yaml.proofs.Giving.{agrees_gives, fails_first}
+use Rattle.rvs_yaml.proofs.Giving.{decides_gives, fails_first}
 use Rattle.rvs_yaml.proofs.Tokens.{tokens-end, tokens-next}
 use Rattle.rvs_yaml.proofs.Outlined.{bind_assoc}
 use Rattle.rvs_yaml.proofs.Stepping.{then-parts}
@@ -23,7 +23,7 @@ returns-then-is_flow_end c =
     let at_end : is_flow_end f.spaced f.rest.now ≡ true =
     ap (is_flow_end f.spaced) (sym c.as_bytes.ensures.value) ∙ sym c.is_flow_end.ensures
     ∙ c.if-is_flow_end.true in
-    agrees_gives _ _ _ _ (sym (ap (λ m. m >>= ended) (sym c.loop-left.invariant ∙ ap
+    decides_gives _ _ _ _ (sym (ap (λ m. m >>= ended) (sym c.loop-left.invariant ∙ ap
     (flow_steps poor known line r)
     (tokens-end c.loop-left.left f.closed f.spaced f.rest.now at_end)))) c.flow_end.ensures
 
@@ -76,6 +76,6 @@ returns c =
     let f = c.loop-left.flowing in
     let r = reading_view f.reading in
     let none : c.loop-left.left ≡ zero = omega arith in
-    agrees_gives _ _ _ _ (sym (ap (λ m. m >>= ended) (sym c.loop-left.invariant
+    decides_gives _ _ _ _ (sym (ap (λ m. m >>= ended) (sym c.loop-left.invariant
     ∙ ap (λ k. flow_steps poor known line r (tokens k f.closed f.spaced f.rest.now)) none)))
     c.flow_end-2.ensures

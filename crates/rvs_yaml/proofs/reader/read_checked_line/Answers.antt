@@ -39,7 +39,7 @@ returns-in_err-check_front c =
     let p = err_from_is_err_and c.from_residual-in_err-check_front.result
     c.from_residual-in_err-check_front.ensures.1 in
     rw (p.1, p.2) (fails_to _ (checked_front (stack_view c.as_slice.result.now)) _
-    (λ is. ap (λ m. m >>= kept) c.in_ok-stack.ensures
+    (λ kind is. ap (λ m. m >>= kept) c.in_ok-stack.ensures
     ∙ ap (λ m. m >> (let r : Checked (List Open) = Ok (open_blocks s) in r)) (same ∙ is))
     c.in_err-check_front.ensures.given)
 

@@ -6,16 +6,15 @@ use Rattle.rvs_yaml.proofs.Answering.{Reads, Reads-line, Reads-refused}
 use Rattle.rvs_yaml.proofs.Ending.{refused-line, Reads-whole}
 use Rattle.rvs_yaml.proofs.reader.read_text.Goals as goal
 
-pub returns-in-Err-clause-refused : goal.returns-in-Err-clause-refused
-returns-in-Err-clause-refused c =
+pub returns-in-Err : goal.returns-in-Err
+returns-in-Err c =
     let l = c.loop-rest in
-    refused-line c.refusal.result.kind c.in-Err.kind c.refusal.result.line (l.number + 1)
-    (answer c.args.bytes.now) _ c.refusal.ensures.kind
-    (Reads-refused c.args.bytes.now l.number l.started
+    refused-line c.refusal.result c.in-Err.fault (l.number + 1) (answer c.args.bytes.now) _
+    c.refusal.ensures (λ kind. Reads-refused c.args.bytes.now l.number l.started
     (open_blocks l.stack) l.rest c.first_line.result.1 c.in-Some.text
-    c.first_line.result.0.now c.without_return-line.result.now c.in-Err.kind
+    c.first_line.result.0.now c.without_return-line.result.now kind
     l.invariant c.in-Some.is c.first_line.ensures.cut c.without_return-line.ensures)
-    c.in-Err.ensures c.refusal.ensures.line c.refusal.ensures.memory
+    c.in-Err.ensures
 
 pub loop-rest-preserved : goal.loop-rest-preserved
 loop-rest-preserved c =
@@ -29,8 +28,8 @@ loop-rest-preserved c =
     subst (λ s. Reads c.args.bytes.now (l.number + 1) s after c.first_line.result.1)
     (sym c.started_by-started.ensures) next
 
-pub returns-in-Ok-whole_tree-clause-tree : goal.returns-in-Ok-whole_tree-clause-tree
-returns-in-Ok-whole_tree-clause-tree c =
+pub returns-in-Ok-whole_tree : goal.returns-in-Ok-whole_tree
+returns-in-Ok-whole_tree c =
     let l = c.loop-rest in
     Reads-whole c.args.bytes.now l.number l.started (open_blocks l.stack) l.rest
     (view c.in-Ok-whole_tree.tree) l.invariant c.in_default.is c.in-Ok-whole_tree.ensures

@@ -1,0 +1,5 @@
+pub mod Assignments
+pub mod Choices
+pub mod Excluding
+pub mod Solutions
+pub mod Solved

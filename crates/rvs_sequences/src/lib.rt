@@ -1,0 +1,7 @@
+//! Instructions that solve cross points.
+#![tactic(auto)]
+
+mod choosing;
+mod solving;
+
+pub use solving::solve_cross;
