@@ -1,5 +1,4 @@
 pub mod Asked
-pub mod Cursor
 pub mod Digits
 pub mod Faults
 pub mod File

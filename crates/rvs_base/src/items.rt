@@ -46,7 +46,8 @@ impl<T> Items<T> {
         self.list
     }
 
-    pub(crate) fn allocator(&self) -> Global {
+    /// The allocator from which the list takes memory.
+    pub fn allocator(&self) -> Global {
         *self.list.allocator()
     }
 }
@@ -65,8 +66,8 @@ impl<T: Drop> Items<T> {
         Ok(())
     }
 
-    /// Puts an item in the place of another.
-    pub(crate) fn set(&mut self, place: usize, item: T)
+    /// Puts an item in the place of another, counted from 0.
+    pub fn set(&mut self, place: usize, item: T)
         requires { place < length self.old }
         ensures { self.new ≡ slice_set self.old place item }
     {

@@ -2,7 +2,6 @@
 //! numbers.
 #![tactic(auto)]
 
-mod answers;
 mod asked;
 mod digits;
 mod file;
@@ -10,15 +9,12 @@ mod host;
 mod items;
 mod letting;
 mod lines;
-mod memory_host;
 mod memory_refusal;
-mod memory_run;
 mod memory_sink;
 mod number;
 mod sink;
 mod text;
 
-pub use answers::{Answer, Leaves};
 pub use asked::{DemoSize, Window};
 pub use digits::{natural_below, number_below, short_number};
 pub use file::{FileRefusal, read_file};
@@ -26,7 +22,6 @@ pub use host::{DeviceRun, Failed, Host, OpenFault};
 pub use items::{Bytes, Items};
 pub use letting::{beside, release};
 pub use lines::{cut, first_line, without_return};
-pub use memory_host::{Files, MemoryHost};
 pub use memory_refusal::NoMemory;
 pub use memory_sink::MemorySink;
 pub use number::{decimal, hex_text, hex_word, signed32, unsigned32};

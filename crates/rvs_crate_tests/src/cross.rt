@@ -1,6 +1,7 @@
 // Texts of cross points, each with its places or why it is refused.
 use rvs_base::release;
 use rvs_cross::{Cross, CrossRead, CrossRefusal, Place, in_order, parse_cross};
+use rvs_fault::Fault;
 use std::alloc::Global;
 use std::test::Fail;
 
@@ -56,7 +57,8 @@ pub fn tell_cross(alloc: Global, text: &str, report: &mut String) -> Result<(), 
     let read = parse_cross(alloc, text);
     let told = match &read {
         Ok(read) => spell_read(read, report),
-        Err(why) => spell_refusal(why, report),
+        Err(Fault::Refused(why)) => spell_refusal(why, report),
+        Err(Fault::NoMemory) => Err(Fail::new("no memory")),
     };
     release(read);
     told

@@ -2,6 +2,7 @@
 use rvs_base::release;
 use rvs_expr::{Expr, ExprRefusal, NumName, parse_num, parse_reg};
 use rvs_expr_text::{Language, read_node};
+use rvs_fault::Fault;
 use rvs_free::Free;
 use std::alloc::Global;
 use std::test::Fail;
@@ -27,7 +28,8 @@ pub fn tell_node(alloc: Global, text: &str, report: &mut String) -> Result<(), F
     let read = read_node(alloc, Language::Numbers, &[], text.as_bytes());
     let told = match &read {
         Ok(_) => accept(report),
-        Err(refusal) => spell_refusal(refusal, report),
+        Err(Fault::Refused(refusal)) => spell_refusal(refusal, report),
+        Err(Fault::NoMemory) => Err(Fail::new("no memory")),
     };
     release(read);
     told
@@ -51,7 +53,8 @@ pub fn tell_num(alloc: Global, text: &str, report: &mut String) -> Result<(), Fa
     let read = parse_num(alloc, text);
     let told = match &read {
         Ok(expr) => spell_expr(expr, report),
-        Err(refusal) => spell_refusal(refusal, report),
+        Err(Fault::Refused(refusal)) => spell_refusal(refusal, report),
+        Err(Fault::NoMemory) => Err(Fail::new("no memory")),
     };
     release(read);
     told
@@ -74,7 +77,8 @@ pub fn tell_part(alloc: Global, text: &str, report: &mut String) -> Result<(), F
     let read = parse_num(alloc, text);
     let told = match &read {
         Ok(expr) => spell_part(alloc, expr, report),
-        Err(refusal) => spell_refusal(refusal, report),
+        Err(Fault::Refused(refusal)) => spell_refusal(refusal, report),
+        Err(Fault::NoMemory) => Err(Fail::new("no memory")),
     };
     release(read);
     told
@@ -85,7 +89,8 @@ pub fn tell_reg(alloc: Global, text: &str, report: &mut String) -> Result<(), Fa
     let read = parse_reg(alloc, text, &[]);
     let told = match &read {
         Ok(_) => accept(report),
-        Err(refusal) => spell_refusal(refusal, report),
+        Err(Fault::Refused(refusal)) => spell_refusal(refusal, report),
+        Err(Fault::NoMemory) => Err(Fail::new("no memory")),
     };
     release(read);
     told

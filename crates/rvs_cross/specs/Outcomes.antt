@@ -1,9 +1,7 @@
 -- What a step of reading a cross point comes to: what it reads, or why the text is refused.
-use Rattle.std.specs.Prelude.{◌≢◌, List, [], ◌∷◌, Result, Ok}
-use Rattle.rvs_text.specs.Outcomes as outcomes
+use Rattle.std.specs.Prelude.{List, [], ◌∷◌, Result, Ok}
 use Rattle.rvs_text.specs.Outcomes.{◌>>=◌}
 use Rattle.rvs_cross.specs.declared.refusal.CrossRefusal.{CrossRefusal}
-use Rattle.rvs_cross.specs.declared.refusal.CrossRefusal.TheVariants.{NoMemory}
 
 abbrev pub Outcome : Type 0 → Type 0
 Outcome A = Result A CrossRefusal
@@ -12,7 +10,3 @@ Outcome A = Result A CrossRefusal
 abbrev pub for_each : {A S : Type 0} → (A → S → Outcome S) → List A → S → Outcome S
 for_each f [] s = Ok s
 for_each f (x ∷ xs) s = f x s >>= for_each f xs
-
--- a call's answer, seen so, is what reading comes to, or want of memory
-abbrev pub AnswersWith : {A B : Type 0} → (A → B) → Result A CrossRefusal → Outcome B → Type 0
-AnswersWith see result outcome = outcomes.AnswersWith (λ e. e ≢ NoMemory) see result outcome

@@ -21,7 +21,9 @@ use Rattle.rvs_cross.specs.declared.refusal.CrossRefusal.TheVariants.{TooManyPla
 use Rattle.rvs_cross.specs.declared.refusal.CrossRefusal.TheVariants.{UnassignedVariable}
 use Rattle.rvs_cross.specs.declared.refusal.CrossRefusal.TheVariants.{UnknownMnemonic, Expr}
 use Rattle.rvs_text.specs.Outcomes.{◌>>=◌}
-use Rattle.rvs_cross.specs.Outcomes.{Outcome, AnswersWith}
+use Rattle.rvs_cross.specs.Outcomes.{Outcome}
+use Rattle.rvs_fault.specs.Answers.{AnswersWith}
+use Rattle.rvs_fault.specs.declared.faults.Fault.{Fault}
 use Rattle.rvs_cross.specs.Lists.{Lists, lists, entries}
 use Rattle.rvs_cross.specs.Entries.{lists_ops, lists_sets, has_class, first_unknown, ops}
 use Rattle.rvs_cross.specs.Variables.{variables, sets}
@@ -39,7 +41,7 @@ answer_view (code.Read c) = read (cross_view c)
 answer_view code.Skipped = skipped
 
 -- a call's answer is what reading comes to, or want of memory
-abbrev pub Answers : Result CrossRead CrossRefusal → Found → Type 0
+abbrev pub Answers : Result CrossRead (Fault CrossRefusal) → Found → Type 0
 Answers result found = AnswersWith answer_view result found
 
 -- ---- conditions

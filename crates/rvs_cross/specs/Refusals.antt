@@ -6,7 +6,6 @@ use Rattle.rvs_cross.specs.declared.refusal.CrossRefusal.TheVariants.{TooManyPla
 use Rattle.rvs_cross.specs.declared.refusal.CrossRefusal.TheVariants.{TooManyVariables}
 use Rattle.rvs_cross.specs.declared.refusal.CrossRefusal.TheVariants.{UnassignedVariable}
 use Rattle.rvs_cross.specs.declared.refusal.CrossRefusal.TheVariants.{UnknownMnemonic, Expr}
-use Rattle.rvs_cross.specs.declared.refusal.CrossRefusal.TheVariants.{NoMemory}
 
 abbrev pub number_of : CrossRefusal → ℕ
 number_of BadList = 1
@@ -16,4 +15,3 @@ number_of TooManyVariables = 4
 number_of (UnassignedVariable name) = 5
 number_of (UnknownMnemonic name) = 6
 number_of (Expr e) = 7
-number_of NoMemory = 8

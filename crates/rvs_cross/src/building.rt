@@ -1,11 +1,10 @@
 // The places of a cross point.
-ghost use Rattle.std.specs.Prelude.{◌≡◌, ◌≢◌, ◌-◌, ◌≤◌, IfOk, drop, length, map, option_map, take};
-ghost use Rattle.rvs_expr_text.specs.declared.refusal.ExprKind.TheVariants as expr_kind;
+ghost use Rattle.std.specs.Prelude.{◌≡◌, ◌-◌, ◌≤◌, IfOk, drop, length, map, option_map, take};
 ghost use Rattle.rvs_expr.specs.TypedView.{view};
 ghost use Rattle.rvs_cross.specs.declared.refusal.CrossRefusal.TheVariants as refusal;
 ghost use Rattle.rvs_text.specs.Bytes.{name_length};
 ghost use Rattle.rvs_cross.specs.CrossView.{place_view};
-ghost use Rattle.rvs_cross.specs.Outcomes.{AnswersWith};
+ghost use Rattle.rvs_fault.specs.Answers.{AnswersWith, IfRefused};
 ghost use Rattle.rvs_cross.specs.Parse as spec;
 
 use crate::cross::Place;
@@ -14,6 +13,7 @@ use crate::refusal::CrossRefusal;
 use crate::variables::sets;
 use rvs_base::{Items, Text, beside};
 use rvs_expr::{Expr, ExprKind, ExprRefusal, parse_reg};
+use rvs_fault::Fault;
 use rvs_text::bytes::name_length;
 use rvs_text::trimmed;
 use std::alloc::Global;
@@ -45,43 +45,45 @@ fn name_at(column: u64, text: &str) -> &str
 }
 
 /// The refusal of a name, or want of memory.
-fn unassigned(alloc: Global, name: &str) -> CrossRefusal
-    ensures { result ≢ refusal.NoMemory → result ≡ refusal.UnassignedVariable name.now }
+fn unassigned(alloc: Global, name: &str) -> Fault<CrossRefusal>
+    ensures { IfRefused result (λ r. r ≡ refusal.UnassignedVariable name.now) }
 {
     match String::from_str(alloc, name) {
-        Ok(name) => CrossRefusal::UnassignedVariable {
+        Ok(name) => Fault::Refused(CrossRefusal::UnassignedVariable {
             name: Text::from(name),
-        },
-        Err(_) => CrossRefusal::NoMemory,
+        }),
+        Err(_) => Fault::NoMemory,
     }
 }
 
 /// The refusal of a mnemonic, or want of memory.
-pub fn unknown(alloc: Global, name: &str) -> CrossRefusal
-    ensures { result ≢ refusal.NoMemory → result ≡ refusal.UnknownMnemonic name.now }
+pub fn unknown(alloc: Global, name: &str) -> Fault<CrossRefusal>
+    ensures { IfRefused result (λ r. r ≡ refusal.UnknownMnemonic name.now) }
 {
     match String::from_str(alloc, name) {
-        Ok(name) => CrossRefusal::UnknownMnemonic {
+        Ok(name) => Fault::Refused(CrossRefusal::UnknownMnemonic {
             name: Text::from(name),
-        },
-        Err(_) => CrossRefusal::NoMemory,
+        }),
+        Err(_) => Fault::NoMemory,
     }
 }
 
 /// The refusal of an entry that is no expression, or want of memory.
-fn refused(alloc: Global, text: &str, why: ExprRefusal) -> CrossRefusal
-    ensures { result ≢ refusal.NoMemory → (why.kind ≢ expr_kind.NoMemory)
-        × (result ≡ spec.refusal_of text.now why why.kind) }
+fn refused(alloc: Global, text: &str, why: ExprRefusal) -> Fault<CrossRefusal>
+    ensures { IfRefused result (λ r. r ≡ spec.refusal_of text.now why why.kind) }
 {
     match why.kind {
-        ExprKind::NoMemory => CrossRefusal::NoMemory,
         ExprKind::UnknownName => unassigned(alloc, name_at(why.column, text)),
-        _ => CrossRefusal::Expr(why),
+        _ => Fault::Refused(CrossRefusal::Expr(why)),
     }
 }
 
 /// The expression of an entry without spaces at its ends.
-fn condition(alloc: Global, variables: &[Text], text: &str) -> Result<Option<Expr>, CrossRefusal>
+fn condition(
+    alloc: Global,
+    variables: &[Text],
+    text: &str,
+) -> Result<Option<Expr>, Fault<CrossRefusal>>
     requires { length variables.now ≤ 3 }
     ensures { AnswersWith (option_map view) result (spec.condition variables.now text.now) }
 {
@@ -90,7 +92,8 @@ fn condition(alloc: Global, variables: &[Text], text: &str) -> Result<Option<Exp
     }
     match parse_reg(alloc, text, variables) {
         Ok(expr) => Ok(Some(expr)),
-        Err(why) => Err(refused(alloc, text, why)),
+        Err(Fault::Refused(why)) => Err(refused(alloc, text, why)),
+        Err(Fault::NoMemory) => Err(Fault::NoMemory),
     }
 }
 
@@ -101,7 +104,7 @@ fn place(
     mnemonics: &str,
     assignments: &str,
     entry: &str,
-) -> Result<Place, CrossRefusal>
+) -> Result<Place, Fault<CrossRefusal>>
     requires { length variables.now ≤ 3 }
     ensures { AnswersWith place_view result
         (spec.place variables.now mnemonics.now assignments.now entry.now) }
@@ -117,7 +120,7 @@ fn place(
                 condition,
             })
         }
-        Err(why) => Err(why),
+        Err(fault) => Err(fault),
     }
 }
 
@@ -128,7 +131,7 @@ pub fn places(
     mnemonics: &[&str],
     assignments: &[&str],
     conditions: &[&str],
-) -> Result<Items<Place>, CrossRefusal>
+) -> Result<Items<Place>, Fault<CrossRefusal>>
     requires few { length variables.now ≤ 3 }
     requires sets { length assignments.now ≡ length mnemonics.now }
     requires conditions { length conditions.now ≡ length mnemonics.now }

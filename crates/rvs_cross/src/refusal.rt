@@ -3,9 +3,8 @@ ghost use Rattle.std.specs.Prelude.{◌≡◌};
 ghost use Rattle.rvs_cross.specs.Refusals.{number_of};
 
 use crate::cross::Cross;
-use rvs_base::{NoMemory, Text};
+use rvs_base::Text;
 use rvs_expr::ExprRefusal;
-use std::alloc::{AllocError, AllocFailed};
 
 /// What a text is.
 #[derive(Drop)]
@@ -39,12 +38,10 @@ pub enum CrossRefusal {
     },
     /// An entry is no expression over registers; its column counts in the entry.
     Expr(ExprRefusal),
-    /// The allocator refused.
-    NoMemory,
 }
 
 impl CrossRefusal {
-    /// The number under which a fault line names the kind: 1 to 8, in the order above.
+    /// The number under which a fault line names the kind: 1 to 7, in the order above.
     pub fn number(&self) -> u8
         ensures { result ≡ number_of self.now }
     {
@@ -56,40 +53,6 @@ impl CrossRefusal {
             CrossRefusal::UnassignedVariable { .. } => 5,
             CrossRefusal::UnknownMnemonic { .. } => 6,
             CrossRefusal::Expr(_) => 7,
-            CrossRefusal::NoMemory => 8,
         }
-    }
-}
-
-impl From<AllocError> for CrossRefusal {
-    ghost use Rattle.std.specs.Prelude.{◌≡◌};
-    ghost use Rattle.rvs_cross.specs.declared.refusal.CrossRefusal.TheVariants.{NoMemory};
-
-    ghost from_gives = { λ _ refusal. refusal ≡ NoMemory };
-
-    fn from(_: AllocError) -> Self {
-        CrossRefusal::NoMemory
-    }
-}
-
-impl<T: Drop> From<AllocFailed<T>> for CrossRefusal {
-    ghost use Rattle.std.specs.Prelude.{◌≡◌};
-    ghost use Rattle.rvs_cross.specs.declared.refusal.CrossRefusal.TheVariants.{NoMemory};
-
-    ghost from_gives = { λ _ refusal. refusal ≡ NoMemory };
-
-    fn from(_: AllocFailed<T>) -> Self {
-        CrossRefusal::NoMemory
-    }
-}
-
-impl From<NoMemory> for CrossRefusal {
-    ghost use Rattle.std.specs.Prelude.{◌≡◌};
-    ghost use Rattle.rvs_cross.specs.declared.refusal.CrossRefusal.TheVariants as refusal;
-
-    ghost from_gives = { λ _ answer. answer ≡ refusal.NoMemory };
-
-    fn from(_: NoMemory) -> Self {
-        CrossRefusal::NoMemory
     }
 }

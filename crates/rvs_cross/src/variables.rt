@@ -3,7 +3,8 @@ ghost use Rattle.std.specs.Prelude.{◌≡◌, ◌≤◌, IfOk, OnOk, bytes_eq, 
 ghost use Rattle.std.specs.List.{filter_map, list_any, position};
 ghost use Rattle.rvs_text.specs.Parts.{parts};
 ghost use Rattle.rvs_cross.specs.Once.{each_once, with_one};
-ghost use Rattle.rvs_cross.specs.Outcomes.{AnswersWith, for_each};
+ghost use Rattle.rvs_cross.specs.Outcomes.{for_each};
+ghost use Rattle.rvs_fault.specs.Answers.{AnswersWith};
 ghost use Rattle.rvs_cross.specs.Variables as spec;
 
 use crate::cross::{Assignment, Field, Variable};
@@ -11,6 +12,7 @@ use crate::entries::assignment;
 use crate::refusal::CrossRefusal;
 use crate::used::same_variable;
 use rvs_base::{Items, Text, beside, release};
+use rvs_fault::Fault;
 use rvs_text::parts;
 use std::alloc::{AllocError, Global};
 
@@ -21,7 +23,11 @@ fn is_noted(variables: &[Text], name: &str) -> bool
 }
 
 /// The variables with one more, where it isn't there yet.
-fn note(alloc: Global, name: &str, variables: Items<Text>) -> Result<Items<Text>, CrossRefusal>
+fn note(
+    alloc: Global,
+    name: &str,
+    variables: Items<Text>,
+) -> Result<Items<Text>, Fault<CrossRefusal>>
     ensures { AnswersWith (λ v. v) result (spec.note name.now variables) }
 {
     if is_noted(variables.as_slice(), name) {
@@ -29,7 +35,7 @@ fn note(alloc: Global, name: &str, variables: Items<Text>) -> Result<Items<Text>
     }
     if variables.as_slice().len() >= 3 {
         release(variables);
-        return Err(CrossRefusal::TooManyVariables);
+        return Err(Fault::Refused(CrossRefusal::TooManyVariables));
     }
     let (name, variables) = beside(String::from_str(alloc, name), variables)?;
     let mut variables = variables;
@@ -38,7 +44,11 @@ fn note(alloc: Global, name: &str, variables: Items<Text>) -> Result<Items<Text>
 }
 
 /// The variables with that of an assignment.
-fn note_part(alloc: Global, part: &str, variables: Items<Text>) -> Result<Items<Text>, CrossRefusal>
+fn note_part(
+    alloc: Global,
+    part: &str,
+    variables: Items<Text>,
+) -> Result<Items<Text>, Fault<CrossRefusal>>
     ensures { AnswersWith (λ v. v) result (spec.note_part part.now variables) }
 {
     match assignment(part) {
@@ -51,7 +61,7 @@ fn note_parts(
     alloc: Global,
     parts: &[&str],
     variables: Items<Text>,
-) -> Result<Items<Text>, CrossRefusal>
+) -> Result<Items<Text>, Fault<CrossRefusal>>
     ensures { AnswersWith (λ v. v) result
         (for_each spec.note_part (map (λ t. t.now) parts.now) variables) }
 {
@@ -67,7 +77,7 @@ fn note_entry(
     alloc: Global,
     entry: &str,
     variables: Items<Text>,
-) -> Result<Items<Text>, CrossRefusal>
+) -> Result<Items<Text>, Fault<CrossRefusal>>
     ensures { AnswersWith (λ v. v) result (spec.note_entry entry.now variables) }
 {
     let (parts, variables) = beside(parts(alloc, ';', entry), variables)?;
@@ -78,7 +88,7 @@ fn note_entry(
 
 /// The variables of these entries, at most three, in the order in which they appear first.
 #[tactic(auto, using(crate::proofs::Noting::at_most_three))]
-pub fn variables(alloc: Global, entries: &[&str]) -> Result<Items<Text>, CrossRefusal>
+pub fn variables(alloc: Global, entries: &[&str]) -> Result<Items<Text>, Fault<CrossRefusal>>
     ensures noted { AnswersWith (λ v. v) result (spec.variables (map (λ t. t.now) entries.now)) }
     ensures few { IfOk result (λ v. length v ≤ 3) }
 {

@@ -2,7 +2,7 @@
 ghost use Rattle.std.specs.Prelude.{◌≡◌};
 ghost use Rattle.rvs_fault.specs.declared.faults.Fault.TheVariants.{NoMemory};
 
-use std::alloc::AllocError;
+use std::alloc::{AllocError, AllocFailed};
 
 /// Why a call that reads an input gives no value.
 #[derive(Drop, Clone, Copy)]
@@ -25,6 +25,14 @@ impl<R> From<AllocError> for Fault<R> {
     ghost from_gives = { λ _ fault. fault ≡ NoMemory };
 
     fn from(_: AllocError) -> Self {
+        Fault::NoMemory
+    }
+}
+
+impl<T: Drop, R> From<AllocFailed<T>> for Fault<R> {
+    ghost from_gives = { λ _ fault. fault ≡ NoMemory };
+
+    fn from(_: AllocFailed<T>) -> Self {
         Fault::NoMemory
     }
 }

@@ -7,7 +7,8 @@
 mod runs;
 
 use runs::tell_last;
-use rvs_base::{Bytes, Files, Items, MemoryHost, Text, release};
+use rvs_base::{Bytes, Items, Text, release};
+use rvs_memory::{Files, MemoryHost};
 use std::alloc::Global;
 use std::fs;
 use std::test::Fail;

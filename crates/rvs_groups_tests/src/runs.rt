@@ -1,5 +1,6 @@
 // Runs over a host and sinks in memory, of which the last line of the output is told.
-use rvs_base::{Items, MemoryHost, MemorySink, Sink, release};
+use rvs_base::{Items, MemorySink, Sink, release};
+use rvs_memory::MemoryHost;
 use rvs_suite::{Status, run_suite};
 use std::alloc::Global;
 use std::test::Fail;

@@ -40,10 +40,10 @@ fn check_bytes(alloc: Global, isa: &IsaSpec, name: &str, bytes: &[u8]) -> Result
     ensures { (w : World) → Meets (checks isa.now name.now bytes.now) w w result }
 {
     let tree = accepted(alloc, name, parse(alloc, bytes))?;
-    check_tree(alloc, isa, name, &tree)
+    accept_database(alloc, isa, name, &tree)
 }
 
-fn check_tree(alloc: Global, isa: &IsaSpec, name: &str, tree: &Tree) -> Result<Database, Stop>
+fn accept_database(alloc: Global, isa: &IsaSpec, name: &str, tree: &Tree) -> Result<Database, Stop>
     ensures { (w : World)
         → Meets (Ends (checked_end name.now (database_of isa.now (view tree.now)))) w w result }
 {

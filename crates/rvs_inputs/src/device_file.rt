@@ -36,10 +36,10 @@ fn check_bytes(alloc: Global, name: &str, bytes: &[u8]) -> Result<Device, Stop>
     ensures { (w : World) → Meets (checks name.now bytes.now) w w (seen told result) }
 {
     let tree = accepted(alloc, name, parse(alloc, bytes))?;
-    check_tree(alloc, name, &tree)
+    accept_device(alloc, name, &tree)
 }
 
-fn check_tree(alloc: Global, name: &str, tree: &Tree) -> Result<Device, Stop>
+fn accept_device(alloc: Global, name: &str, tree: &Tree) -> Result<Device, Stop>
     ensures { (w : World) → Meets (Ends (checked_end name.now (told_in (view tree.now)))) w w
         (seen told result) }
 {

@@ -162,10 +162,15 @@ fn check_text(alloc: Global, isa: &IsaSpec, families: Families, text: Bytes) -> 
 {
     let tree = accepted(alloc, GROUPS_NAME, parse(alloc, text.as_slice()))?;
     drop(text);
-    check_tree(alloc, isa, families, &tree)
+    accept_groups(alloc, isa, families, &tree)
 }
 
-fn check_tree(alloc: Global, isa: &IsaSpec, families: Families, tree: &Tree) -> Result<Groups, Stop>
+fn accept_groups(
+    alloc: Global,
+    isa: &IsaSpec,
+    families: Families,
+    tree: &Tree,
+) -> Result<Groups, Stop>
     ensures met { (w : World) → Meets
         (Ends (checked_groups (groups_of isa.now families (view tree.now)))) w w
         (seen groups_view result) }

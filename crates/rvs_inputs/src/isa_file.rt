@@ -34,10 +34,10 @@ fn check_bytes(alloc: Global, name: &str, bytes: &[u8]) -> Result<AcceptedSpec, 
     ensures { (w : World) → Meets (checks name.now bytes.now) w w result }
 {
     let tree = accepted(alloc, name, parse(alloc, bytes))?;
-    check_tree(alloc, name, &tree)
+    accept_isa(alloc, name, &tree)
 }
 
-fn check_tree(alloc: Global, name: &str, tree: &Tree) -> Result<AcceptedSpec, Stop>
+fn accept_isa(alloc: Global, name: &str, tree: &Tree) -> Result<AcceptedSpec, Stop>
     ensures { (w : World)
         → Meets (Ends (checked_end name.now (checked (view tree.now)))) w w result }
 {

@@ -9,6 +9,6 @@ mod refusal;
 
 pub use group::{Groups, Kind, Label, Meaning, Point, Skipped};
 pub use hits::is_meant;
-pub use keys::{is_label_name, is_printable, is_skipped};
+pub use keys::{is_label_name, is_printable};
 pub use reading::{Said, read_key};
 pub use refusal::CgfKind;

@@ -1,5 +1,5 @@
 // What keys say.
-ghost use Rattle.std.specs.Prelude.{◌≡◌, ◌≢◌, IfOk};
+ghost use Rattle.std.specs.Prelude.{◌≡◌, IfOk};
 ghost use Rattle.rvs_points.specs.Points as spec;
 ghost use Rattle.rvs_points.specs.SaidView.{said_view};
 
@@ -7,9 +7,10 @@ use crate::group::{Kind, Meaning};
 use crate::keys::is_skipped;
 use crate::refusal::CgfKind;
 use rvs_base::NoMemory;
-use rvs_cross::{CrossRead, CrossRefusal, parse_cross};
-use rvs_expr::{ExprKind, ExprRefusal, parse_num, parse_reg};
+use rvs_cross::{CrossRead, parse_cross};
+use rvs_expr::{parse_num, parse_reg};
 use rvs_expr_text::register_number;
+use rvs_fault::Fault;
 use rvs_insn::op_of;
 use std::alloc::Global;
 
@@ -42,17 +43,6 @@ fn read_register(key: &str) -> Said
     }
 }
 
-/// The refusal of a key that is no expression.
-fn bad_expr(why: ExprRefusal) -> Result<Said, NoMemory>
-    ensures { IfOk result (λ s. (why.kind ≢ ExprKind.NoMemory)
-        × (said_view s ≡ spec.wrong (CgfKind.BadExpr why))) }
-{
-    match why.kind {
-        ExprKind::NoMemory => Err(NoMemory),
-        _ => Ok(Said::Wrong(CgfKind::BadExpr(why))),
-    }
-}
-
 fn read_reg_key(alloc: Global, key: &str) -> Result<Said, NoMemory>
     ensures { IfOk result (λ s. said_view s ≡ spec.says Kind.OpComb key.now) }
 {
@@ -61,7 +51,8 @@ fn read_reg_key(alloc: Global, key: &str) -> Result<Said, NoMemory>
     }
     match parse_reg(alloc, key, &[]) {
         Ok(expr) => Ok(Said::Means(Meaning::Regs(expr))),
-        Err(why) => bad_expr(why),
+        Err(Fault::Refused(why)) => Ok(Said::Wrong(CgfKind::BadExpr(why))),
+        Err(Fault::NoMemory) => Err(NoMemory),
     }
 }
 
@@ -73,18 +64,8 @@ fn read_num_key(alloc: Global, key: &str) -> Result<Said, NoMemory>
     }
     match parse_num(alloc, key) {
         Ok(expr) => Ok(Said::Means(Meaning::Nums(expr))),
-        Err(why) => bad_expr(why),
-    }
-}
-
-/// The refusal of a key that is no cross point.
-fn bad_cross(why: CrossRefusal) -> Result<Said, NoMemory>
-    ensures { IfOk result (λ s. (why ≢ CrossRefusal.NoMemory)
-        × (said_view s ≡ spec.wrong (CgfKind.BadCross why))) }
-{
-    match why {
-        CrossRefusal::NoMemory => Err(NoMemory),
-        _ => Ok(Said::Wrong(CgfKind::BadCross(why))),
+        Err(Fault::Refused(why)) => Ok(Said::Wrong(CgfKind::BadExpr(why))),
+        Err(Fault::NoMemory) => Err(NoMemory),
     }
 }
 
@@ -94,7 +75,8 @@ fn read_cross_key(alloc: Global, key: &str) -> Result<Said, NoMemory>
     match parse_cross(alloc, key) {
         Ok(CrossRead::Read(cross)) => Ok(Said::Means(Meaning::Window(cross))),
         Ok(CrossRead::Skipped) => Ok(Said::Nothing),
-        Err(why) => bad_cross(why),
+        Err(Fault::Refused(why)) => Ok(Said::Wrong(CgfKind::BadCross(why))),
+        Err(Fault::NoMemory) => Err(NoMemory),
     }
 }
 

@@ -1,7 +1,8 @@
 // Runs of which a call fails or a file is cut off, and what files they leave.
 use crate::runs::{NO_FAULTS, fault, faulty, tell_on};
 use crate::stage::{first_word, host_of, number};
-use rvs_base::{Host, MemoryHost, release};
+use rvs_base::{Host, release};
+use rvs_memory::MemoryHost;
 use std::alloc::Global;
 use std::test::Fail;
 

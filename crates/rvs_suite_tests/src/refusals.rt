@@ -6,7 +6,7 @@ use rvs_cgf::CgfKind;
 use rvs_cross::CrossRefusal;
 use rvs_device::DeviceRefusal;
 use rvs_elf::ElfRefusal;
-use rvs_expr_text::ExprKind;
+use rvs_expr_text::{ExprKind, ExprRefusal};
 use rvs_isa::IsaKind;
 use rvs_machine::{ImageKind, TrapKind};
 use rvs_select::SelectKind;
@@ -34,10 +34,13 @@ fn cgf_end() -> u8 {
 }
 
 fn cross_end() -> u8 {
-    let kind = CrossRefusal::NoMemory;
+    let kind = CrossRefusal::Expr(ExprRefusal {
+        column: 0,
+        kind: ExprKind::TooManyConstants,
+    });
     let number = kind.number();
     release(kind);
-    number
+    number.saturating_add(1)
 }
 
 fn device_end(alloc: Global) -> u8 {
@@ -56,8 +59,8 @@ fn elf_end() -> u8 {
     number.saturating_add(1)
 }
 
-/// The number behind the last one of each kind. For most it is that of want of memory, which a line
-/// of its own tells; the kinds of signature files have no numbers in code.
+/// The number behind the last one of each kind; the kinds of signature files have no numbers in
+/// code.
 fn ends(alloc: Global) -> [u8; 13] {
     [
         AbstractRefusal::BadSize.number().saturating_add(1),
@@ -67,7 +70,7 @@ fn ends(alloc: Global) -> [u8; 13] {
         SelectKind::TooManyTests.number().saturating_add(1),
         device_end(alloc),
         elf_end(),
-        ExprKind::NoMemory.number(),
+        ExprKind::TooManyConstants.number().saturating_add(1),
         ImageKind::TooLarge.number().saturating_add(1),
         IsaKind::BadMemory.number().saturating_add(1),
         3,

@@ -1,7 +1,8 @@
 // Runs over a host and sinks in memory. No clause says that a run has the memory that it wants, nor
 // how its lines are spelt.
 use crate::stage::{host_of, list};
-use rvs_base::{MemoryHost, MemorySink, Sink, release};
+use rvs_base::{MemorySink, Sink, release};
+use rvs_memory::MemoryHost;
 use rvs_suite::{Status, run_suite};
 use std::alloc::Global;
 use std::test::Fail;

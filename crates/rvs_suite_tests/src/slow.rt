@@ -1,7 +1,8 @@
 // A run with an output that takes one byte at a time.
 use crate::runs::status_of;
 use crate::stage::host_of;
-use rvs_base::{Failed, Items, MemoryHost, MemorySink, Sink, release};
+use rvs_base::{Failed, Items, MemorySink, Sink, release};
+use rvs_memory::MemoryHost;
 use std::alloc::Global;
 use std::test::Fail;
 

@@ -1,9 +1,10 @@
 // A log whose hits are counted, cut at every place.
 use crate::groups::groups_of;
 use crate::stage::first_word;
-use rvs_base::{Items, MemoryHost, release};
+use rvs_base::{Items, release};
 use rvs_cgf::Groups;
 use rvs_count::{Counter, new_counter};
+use rvs_memory::MemoryHost;
 use std::alloc::Global;
 use std::test::Fail;
 

@@ -1,5 +1,6 @@
 // What stands before a run, as the lines of a scene say it.
-use rvs_base::{Answer, Bytes, Files, Items, Leaves, MemoryHost, Text, number_below};
+use rvs_base::{Bytes, Items, Text, number_below};
+use rvs_memory::{Answer, Files, Leaves, MemoryHost};
 use std::alloc::{AllocError, Global};
 use std::test::Fail;
 

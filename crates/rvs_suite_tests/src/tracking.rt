@@ -1,8 +1,9 @@
 // A log whose hits are tracked, cut at every place.
 use crate::groups::groups_of;
 use crate::stage::first_word;
-use rvs_base::{MemoryHost, Window, number_below, release};
+use rvs_base::{Window, number_below, release};
 use rvs_cgf::Groups;
+use rvs_memory::MemoryHost;
 use rvs_prop::{Tracker, new_tracker};
 use std::alloc::Global;
 use std::test::Fail;

@@ -1,5 +1,5 @@
 -- What reading comes to: what is read, or why it is refused.
-use Rattle.std.specs.Prelude.{◌≡◌, Bool, true, false, Result, Ok, Err}
+use Rattle.std.specs.Prelude.{Bool, true, false, Result, Ok, Err}
 
 -- goes on with what is read
 infixl 10 ◌>>=◌
@@ -17,10 +17,3 @@ abbrev pub ◌>>◌ : {A B E : Type 0} → Result A E → Result B E → Result 
 abbrev pub holds : {E : Type 0} → Bool → E → Result (Unit {0}) E
 holds true refusal = Ok tt
 holds false refusal = Err refusal
-
--- A call's answer, seen so, is what reading comes to. A refusal that isn't said of the text, as
--- want of memory, says nothing.
-abbrev pub AnswersWith : {A B E : Type 0} → (E → Type 0) → (A → B) → Result A E → Result B E
-    → Type 0
-AnswersWith IsSaid see (Ok x) outcome = outcome ≡ Ok (see x)
-AnswersWith IsSaid see (Err e) outcome = IsSaid e → outcome ≡ Err e

@@ -21,7 +21,7 @@ returns-in_err-tree c = λ w.
 pub returns : goal.returns
 returns c = λ w. subst
     (λ (a : Parsed). Meets (Ends (tree_end c.args.name.now a)) w w
-    (seen told c.check_tree.result))
+    (seen told c.accept_device.result))
     (sym (accepted-is view refusal_view refusal_text c.args.name.now
     (answer c.args.bytes.now) _ c.in_ok-tree.tree c.parse.ensures.read c.in_ok-tree.ensures))
-    (c.check_tree.ensures w)
+    (c.accept_device.ensures w)

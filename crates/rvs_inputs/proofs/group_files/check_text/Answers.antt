@@ -30,4 +30,4 @@ returns-clause-met c = λ w.
     c.in_ok-tree.tree c.parse.ensures.read c.in_ok-tree.ensures in
     subst (λ (a : Parsed). Meets
     (Ends (tree_groups c.args.isa.now c.args.families a)) w w
-    (seen groups_view c.check_tree.result)) (sym read) (c.check_tree.ensures.met w)
+    (seen groups_view c.accept_groups.result)) (sym read) (c.accept_groups.ensures.met w)
