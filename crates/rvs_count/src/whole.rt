@@ -5,7 +5,8 @@ ghost use Rattle.rvs_index.specs.Counting.{aims_in, count, kept};
 ghost use Rattle.rvs_log.specs.Lines.{log_limit};
 
 use crate::counter::new_counter;
-use rvs_base::{Items, NoMemory, Window};
+use crate::tally::Tally;
+use rvs_base::{Items, NoMemory, Window, release};
 use rvs_points::Groups;
 use std::alloc::Global;
 
@@ -35,7 +36,15 @@ pub fn count_log(
 {
     let mut counter = new_counter(alloc, groups, windows)?;
     counter.read_whole(log);
-    let tally = counter.told();
+    let counted = figures(alloc, counter.told());
+    release(counter);
+    counted
+}
+
+fn figures(alloc: Global, tally: &Tally<'_>) -> Result<Counted, NoMemory>
+    ensures counts { IfOk result (λ c. c.counts ≡ tally.now.counts) }
+    ensures instructions { IfOk result (λ c. c.instructions ≡ tally.now.instructions) }
+{
     let counts = Vec::from_slice(alloc, tally.counts())?;
     Ok(Counted {
         counts: Items::from(counts),

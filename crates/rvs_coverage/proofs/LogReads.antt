@@ -1,6 +1,6 @@
 -- Reading logs for a report: it only reads, and what it finds over given files.
 use Rattle.std.proofs.Common.{◌≡◌, ◌≤◌, ◌<◌, ◌+◌, ◌-◌, ◌*◌, ℕ, List, [], ◌∷◌, length, nat_lt, Some}
-use Rattle.std.proofs.Common.{Result, Ok, Err, IfOk, refl, sym, ap, ◌∙◌, arith}
+use Rattle.std.proofs.Common.{Result, Ok, Err, refl, sym, ap, ◌∙◌, arith}
 use Rattle.std.specs.Prelude.{map}
 use Rattle.std.specs.List.{zip}
 use Rattle.std.proofs.lemmas.Bool.{lt-ltb, le-ltb, cond-true, cond-false}
@@ -132,12 +132,6 @@ found-report {L} {A} files m isa families names logs inputs bytes given are =
     ap (λ (r : Result Inputs Stop). and_then r (λ i. reported_in m files logs i.groups)) given
     ∙ ap (λ (r : Result A Stop). and_then r (λ known. Ok (m.report inputs.groups logs known)))
     (found-logs files m.name (m.more inputs.groups) (m.none inputs.groups) logs bytes are)
-
--- what holds of a result, where there is one
-pub IfOk-map : {A E : Type 0} {P Q : A → Type 0} (r : Result A E) → ((a : A) → P a → Q a)
-    → IfOk r P → IfOk r Q
-IfOk-map (Ok a) f p = f a p
-IfOk-map (Err e) f p = tt
 
 -- what is left to a counter that was fed before is no more than what a new one takes of a log
 pub at_most-log : {old new : HostState} (fed : ℕ)

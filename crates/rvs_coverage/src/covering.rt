@@ -14,7 +14,7 @@ use crate::log_lines::under_lines;
 use crate::summing::{plus_each, total_of, with_number};
 use crate::taking_logs::{LogTaker, take_log, take_onto};
 use crate::unfinished::{Unfinished, as_planned, unlost};
-use rvs_base::{Host, Items, MemorySink, NoMemory, Sink, Text, Window};
+use rvs_base::{Host, Items, MemorySink, NoMemory, Sink, Text, Window, release};
 use rvs_cgf::Groups;
 use rvs_count::{Counter, Tally, new_counter, report_text, zeros};
 use rvs_inputs::{print_text, read_inputs};
@@ -161,7 +161,9 @@ fn count_all<H: Host, E: Sink>(
     let none = nothing(alloc, groups, logs.len())?;
     let kept = Items::from(windows.to_vec(alloc)?);
     let mut counter = new_counter(alloc, groups, kept)?;
-    take_onto(alloc, host, err, progress, &mut counter, none, logs)
+    let covered = take_onto(alloc, host, err, progress, &mut counter, none, logs);
+    release(counter);
+    covered
 }
 
 /// With what was counted in a log more.

@@ -7,7 +7,7 @@ ghost use Rattle.rvs_demo.specs.Label.{label};
 use crate::counting::count_run;
 use crate::label::label;
 use crate::program::{CORE, image};
-use rvs_base::{DemoSize, Items, NoMemory, Text};
+use rvs_base::{DemoSize, Items, NoMemory, Text, beside, release};
 use rvs_count::new_counter;
 use rvs_machine::Machine;
 use rvs_points::Groups;
@@ -28,11 +28,26 @@ fn report(alloc: Global, count: u64) -> Result<Text, NoMemory>
     ensures { IfOk result (λ text. text ≡ spec.report count) }
 {
     let groups = groups(alloc)?;
-    let mut machine = Machine::new(image(alloc, count)?, CORE);
-    let mut counter = new_counter(alloc, &groups, Items::new(alloc))?;
+    let report = report_on(alloc, count, &groups);
+    release(groups);
+    report
+}
+
+/// The same, on these groups.
+fn report_on(alloc: Global, count: u64, groups: &Groups) -> Result<Text, NoMemory>
+    requires few { count ≤ 1000000 }
+    requires groups { map label_view groups.now ≡ label ∷ [] }
+    ensures { IfOk result (λ text. text ≡ spec.report count) }
+{
+    let machine = Machine::new(image(alloc, count)?, CORE);
+    let counter = new_counter(alloc, groups, Items::new(alloc));
+    let (mut counter, mut machine) = beside(counter, machine)?;
     count_run(&mut machine, &mut counter, count + 11);
+    release(machine);
     counter.finish();
-    counter.told().report(alloc)
+    let report = counter.told().report(alloc);
+    release(counter);
+    report
 }
 
 /// Runs the program with so many generated instructions, and counts its coverage: what is executed

@@ -4,7 +4,7 @@ ghost use Rattle.rvs_points.specs.PointView.{label_view, point_view};
 ghost use Rattle.rvs_points.specs.Points.{says};
 ghost use Rattle.rvs_demo.specs.Label as spec;
 
-use rvs_base::{Items, NoMemory, Text};
+use rvs_base::{Items, NoMemory, Text, beside};
 use rvs_insn::Op;
 use rvs_points::{Kind, Label, Point, Said, read_key};
 use std::alloc::Global;
@@ -16,10 +16,11 @@ fn point(alloc: Global, kind: Kind, key: &str) -> Result<Option<Point>, NoMemory
 {
     match read_key(alloc, kind, key)? {
         Said::Means(meaning) => {
-            let key = Text::from(String::from_str(alloc, key)?);
+            let (key, meaning) = beside(String::from_str(alloc, key), meaning)?;
+            let key = Text::from(key);
             Ok(Some(Point { kind, key, meaning }))
         }
-        _ => Ok(None),
+        Said::Nothing | Said::Wrong(_) => Ok(None),
     }
 }
 

@@ -39,6 +39,19 @@ pub alike_more : (cells : List Cell) (left right n : ℕ) (x y : Cell) → AreAl
 alike_more cells left right n x y was l r atl atr same =
     search (rules, any_default, same_cells, equal)
 
+-- the same, where the cells have defaults
+pub alike_next : (cells : List Cell) (left right n : ℕ) (d e : Cell) → AreAlike n cells left right
+    → left * bucket_count + n < length cells → right * bucket_count + n < length cells
+    → is_same (get_or cells (left * bucket_count + n) d) (get_or cells (right * bucket_count + n) e)
+    ≡ true
+    → AreAlike (n + 1) cells left right
+alike_next cells left right n d e was l r same =
+    alike_more cells left right n (get_or cells (left * bucket_count + n) d)
+    (get_or cells (right * bucket_count + n) e) was l r
+    (any_default cells (left * bucket_count + n) d (get_or cells (left * bucket_count + n) d) l)
+    (any_default cells (right * bucket_count + n) e (get_or cells (right * bucket_count + n) e) r)
+    same
+
 -- a mnemonic's own
 pub alike_self : (n : ℕ) (cells : List Cell) (m : ℕ) → AreAlike n cells m m
 alike_self n cells m = record { each = λ b e h. refl }

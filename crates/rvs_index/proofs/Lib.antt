@@ -5,6 +5,7 @@ pub mod Built
 pub mod Cells
 pub mod Counts
 pub mod Crossing
+mod EachCell
 pub mod Filling
 pub mod Following
 pub mod Hitting

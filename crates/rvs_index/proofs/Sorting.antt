@@ -10,6 +10,7 @@ use Rattle.rvs_index.specs.Counting.{Aim, aims_in}
 use Rattle.rvs_index.specs.Index.{place_of, places, places_for, in_bucket, insns_key}
 use Rattle.rvs_index.specs.Index.{is_for}
 use Rattle.rvs_index.specs.Index.{IsIndex}
+use Rattle.rvs_index.specs.declared.key.ListKey.{ListKey}
 use Rattle.rvs_index.specs.declared.key.ListKey.TheVariants.{Any, Insns}
 use Rattle.rvs_index.specs.declared.slot.Slot.{Slot}
 
@@ -61,4 +62,19 @@ more_index labels lists lists' all list n bucket index len low whole part e =
           list index.each
           (subst (λ k. places list ≡ places_for (is_for (insns_key k)) 0 (aims_in labels)) (sym len)
           key) k d h;
+    })
+
+-- one more list, of any keys
+pub more_lists : (key : ℕ → ListKey) (labels : List Label) (lists lists' : List (List Slot))
+    (list : List Slot) (n : ℕ)
+    → IsIndex key labels lists → length lists ≡ n
+    → places list ≡ places_for (is_for (key n)) 0 (aims_in labels) → lists' ≡ lists ++ list ∷ []
+    → IsIndex key labels lists'
+more_lists key labels lists lists' list n index len mine e =
+    subst (IsIndex key labels) (sym e) (record {
+      each = λ k d h. pushed_each
+          (λ k slots. places slots ≡ places_for (is_for (key k)) 0 (aims_in labels)) lists list
+          index.each
+          (subst (λ k. places list ≡ places_for (is_for (key k)) 0 (aims_in labels)) (sym len)
+          mine) k d h;
     })

@@ -1,6 +1,6 @@
 // Mnemonics whose cells are alike, so that a look-up may take those of the first of them: the
 // points of one label are asked of many mnemonics, and then few cells stay close at hand.
-ghost use Rattle.std.specs.Prelude.{◌≡◌, ◌<◌, IfOk, length, true, ◌*◌};
+ghost use Rattle.std.specs.Prelude.{◌≡◌, ◌<◌, ◌*◌, [], OnOk, length, true};
 ghost use Rattle.rvs_insn.specs.Table.{op_count};
 ghost use Rattle.rvs_index.specs.Buckets.{bucket_count};
 ghost use Rattle.rvs_index.specs.Shared as spec;
@@ -10,7 +10,6 @@ use crate::buckets::BUCKETS;
 use crate::cell::Cell;
 use rvs_base::{Items, NoMemory};
 use rvs_insn::OP_COUNT;
-use std::alloc::Global;
 
 /// Whether both are so, or neither is.
 fn agree(left: bool, right: bool) -> bool
@@ -67,16 +66,16 @@ fn block_of(cells: &[Cell], first: usize, next: usize) -> usize
 
 /// For each mnemonic, one whose cells are its own.
 #[tactic(auto, using(crate::proofs::Blocks::more_blocks))]
-pub(crate) fn blocks(alloc: Global, cells: &[Cell]) -> Result<Items<usize>, NoMemory>
-    requires { length cells.now ≡ op_count * bucket_count }
-    ensures each { IfOk result (HasBlocks cells.now) }
-    ensures all { IfOk result (λ blocks. length blocks ≡ op_count) }
+pub(crate) fn fill_blocks(blocks: &mut Items<usize>, cells: &[Cell]) -> Result<(), NoMemory>
+    requires all { length cells.now ≡ op_count * bucket_count }
+    requires none { blocks.old ≡ [] }
+    ensures each { OnOk result (HasBlocks cells.now blocks.new) }
+    ensures all { OnOk result (length blocks.new ≡ op_count) }
 {
-    let mut blocks = Items::new(alloc);
     let mut first: usize = 0;
     for next in 0..OP_COUNT {
         first = block_of(cells, first, next);
         blocks.push(first)?;
     }
-    Ok(blocks)
+    Ok(())
 }

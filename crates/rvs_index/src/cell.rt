@@ -1,5 +1,5 @@
 // Lists of at most two points, each by the value that it says.
-ghost use Rattle.std.specs.Prelude.{◌≡◌, ◌<◌, ◌≤◌, ◌%◌, ◌^◌, [], ◌∷◌, All, IfOk, IfSome, List};
+ghost use Rattle.std.specs.Prelude.{◌≡◌, ◌<◌, ◌≤◌, ◌%◌, ◌^◌, [], ◌∷◌, All, IfSome, List, OnOk};
 ghost use Rattle.std.specs.Prelude.{length};
 ghost use Rattle.std.specs.Prelude.{slice_index_or, true, vec_len};
 ghost use Rattle.rvs_index.specs.Buckets.{bucket_count};
@@ -13,7 +13,6 @@ use crate::buckets::BUCKETS;
 use crate::hits::{raise, raise_rare};
 use crate::slot::{Slot, place_of};
 use rvs_base::{Items, NoMemory};
-use std::alloc::Global;
 
 /// A value that no fact has.
 pub(crate) const NEVER: i64 = -1_099_511_627_776;
@@ -151,15 +150,15 @@ fn cell_at(lists: &[Items<Slot<'_>>], number: usize) -> Cell
 }
 
 /// The cells of all lists.
-pub(crate) fn cells(alloc: Global, lists: &[Items<Slot<'_>>]) -> Result<Items<Cell>, NoMemory>
-    ensures each { IfOk result (HasCells lists.now) }
-    ensures all { IfOk result (λ cells. length cells ≡ length lists.now) }
+pub(crate) fn fill_cells(cells: &mut Items<Cell>, lists: &[Items<Slot<'_>>]) -> Result<(), NoMemory>
+    requires { cells.old ≡ [] }
+    ensures each { OnOk result (HasCells lists.now cells.new) }
+    ensures all { OnOk result (length cells.new ≡ length lists.now) }
 {
-    let mut cells = Items::new(alloc);
     for number in 0..lists.len() {
         cells.push(cell_at(lists, number))?;
     }
-    Ok(cells)
+    Ok(())
 }
 
 /// Whether a point of a cell with more points may be hit where its fact has this value.

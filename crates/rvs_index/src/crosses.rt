@@ -14,7 +14,7 @@ use crate::key::ListKey;
 use crate::matched::add_matched;
 use crate::slot::Slot;
 use crate::slots::slots_of;
-use rvs_base::{Items, NoMemory};
+use rvs_base::{Items, NoMemory, beside};
 use rvs_cross::places;
 use rvs_facts::number;
 use rvs_insn::{Insn, OP_COUNT};
@@ -140,21 +140,22 @@ fn list_of<'g>(
 }
 
 /// The lists of all numbers of places and mnemonics, of labels with cross points of these numbers.
-fn lists<'g>(
+fn fill_lists<'g>(
     alloc: Global,
+    lists: &mut Items<Items<Slot<'g>>>,
     labels: &'g [Label],
     lengths: &[usize],
-) -> Result<Items<Items<Slot<'g>>>, NoMemory>
+) -> Result<(), NoMemory>
     requires room { length (aims_in labels.now) < 2 ^ 63 }
     requires lengths { lengths.now ≡ lengths_to (aims_in labels.now) 6 }
-    ensures index { IfOk result (IsIndex windows_key labels.now) }
-    ensures all { IfOk result (λ lists. length lists ≡ 6 * op_count) }
+    requires none { lists.old ≡ [] }
+    ensures index { OnOk result (IsIndex windows_key labels.now lists.new) }
+    ensures all { OnOk result (length lists.new ≡ 6 * op_count) }
 {
-    let mut lists = Items::new(alloc);
     for number in 0..LISTS {
         lists.push(list_of(alloc, labels, lengths, number)?)?;
     }
-    Ok(lists)
+    Ok(())
 }
 
 /// The instructions from a place on.
@@ -176,7 +177,9 @@ impl<'g> Crosses<'g> {
         ensures { IfOk result (λ c. c ≡ labels.now) }
     {
         let lengths = lengths(alloc, labels)?;
-        let lists = lists(alloc, labels, lengths.as_slice())?;
+        let mut lists = Items::new(alloc);
+        let filled = fill_lists(alloc, &mut lists, labels, lengths.as_slice());
+        let (_, (lists, lengths)) = beside(filled, (lists, lengths))?;
         Ok(Crosses {
             labels,
             lists,

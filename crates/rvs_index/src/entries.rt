@@ -1,6 +1,6 @@
 // The points that say registers, by their places among the counts alone: a table that stays close
 // at hand, in front of the cells.
-ghost use Rattle.std.specs.Prelude.{◌≡◌, ◌<◌, ◌≤◌, ◌+◌, ◌*◌, ◌^◌, ℕ, All, IfOk, length, pos};
+ghost use Rattle.std.specs.Prelude.{◌≡◌, ◌<◌, ◌≤◌, ◌+◌, ◌*◌, ◌^◌, ℕ, [], All, OnOk, length, pos};
 ghost use Rattle.std.specs.Prelude.{true, vec_len};
 ghost use Rattle.rvs_insn.specs.Table.{op_count};
 ghost use Rattle.rvs_index.specs.Buckets.{bucket_count};
@@ -13,7 +13,6 @@ use crate::buckets::BUCKETS;
 use crate::cell::Cell;
 use rvs_base::{Items, NoMemory};
 use rvs_insn::OP_COUNT;
-use std::alloc::Global;
 
 /// The entry that says to look at the cell.
 const LOOK: u32 = u32::MAX;
@@ -78,16 +77,16 @@ fn entry_for(cells: &[Cell], number: usize) -> u32
 
 /// The entries of all mnemonics and registers.
 #[tactic(auto, using(crate::proofs::Registers::more_entries))]
-pub(crate) fn entries(alloc: Global, cells: &[Cell]) -> Result<Items<u32>, NoMemory>
-    requires { length cells.now ≡ op_count * bucket_count }
-    ensures each { IfOk result (HasEntries cells.now) }
-    ensures all { IfOk result (λ entries. length entries ≡ op_count * register_count) }
+pub(crate) fn fill_entries(entries: &mut Items<u32>, cells: &[Cell]) -> Result<(), NoMemory>
+    requires all { length cells.now ≡ op_count * bucket_count }
+    requires none { entries.old ≡ [] }
+    ensures each { OnOk result (HasEntries cells.now entries.new) }
+    ensures all { OnOk result (length entries.new ≡ op_count * register_count) }
 {
-    let mut entries = Items::new(alloc);
     for number in 0..OP_COUNT * REGISTERS {
         entries.push(entry_for(cells, number))?;
     }
-    Ok(entries)
+    Ok(())
 }
 
 /// Adds one to the count of the point that an entry names.

@@ -1,6 +1,7 @@
 // Lists by the signs that their points say: the first of each mnemonic, and those of the places
 // that an address has within its word.
-ghost use Rattle.std.specs.Prelude.{◌≡◌, ◌<◌, ◌≤◌, ◌+◌, ◌^◌, All, IfOk, IfSome, length, pos, ◌*◌};
+ghost use Rattle.std.specs.Prelude.{◌≡◌, ◌<◌, ◌≤◌, ◌+◌, ◌*◌, ◌^◌, [], All, IfOk, IfSome, OnOk};
+ghost use Rattle.std.specs.Prelude.{length, pos};
 ghost use Rattle.rvs_expr_text.specs.declared.lexeme.NumName.TheVariants.{EaAlign};
 ghost use Rattle.rvs_insn.specs.Table.{op_count};
 ghost use Rattle.rvs_index.specs.Buckets.{bucket_count};
@@ -173,17 +174,21 @@ fn head_of(alloc: Global, audience: Audience, slots: &[Slot<'_>]) -> Result<Head
 }
 
 /// The marks of the first lists of all mnemonics.
-pub(crate) fn heads(alloc: Global, lists: &[Items<Slot<'_>>]) -> Result<Items<Head>, NoMemory>
-    requires { length lists.now ≡ op_count * bucket_count }
-    ensures each { IfOk result (HasFirstHeads lists.now) }
-    ensures all { IfOk result (λ heads. length heads ≡ op_count) }
+pub(crate) fn fill_heads(
+    alloc: Global,
+    heads: &mut Items<Head>,
+    lists: &[Items<Slot<'_>>],
+) -> Result<(), NoMemory>
+    requires all { length lists.now ≡ op_count * bucket_count }
+    requires none { heads.old ≡ [] }
+    ensures each { OnOk result (HasFirstHeads lists.now heads.new) }
+    ensures all { OnOk result (length heads.new ≡ op_count) }
 {
-    let mut heads = Items::new(alloc);
     for number in 0..OP_COUNT {
         let slots = lists[number * BUCKETS].as_slice();
         heads.push(head_of(alloc, Audience::Mnemonic(number), slots)?)?;
     }
-    Ok(heads)
+    Ok(())
 }
 
 /// So many places an address may have within its word.
@@ -203,19 +208,23 @@ fn place_head(alloc: Global, place: usize, slots: &[Slot<'_>]) -> Result<Head, N
 }
 
 /// The marks of the lists of an address's places, for all mnemonics.
-pub(crate) fn place_heads(alloc: Global, lists: &[Items<Slot<'_>>]) -> Result<Items<Head>, NoMemory>
-    requires { length lists.now ≡ op_count * bucket_count }
-    ensures each { IfOk result (HasPlaceHeads lists.now) }
-    ensures all { IfOk result (λ heads. length heads ≡ 4 * op_count) }
+pub(crate) fn fill_places(
+    alloc: Global,
+    heads: &mut Items<Head>,
+    lists: &[Items<Slot<'_>>],
+) -> Result<(), NoMemory>
+    requires all { length lists.now ≡ op_count * bucket_count }
+    requires none { heads.old ≡ [] }
+    ensures each { OnOk result (HasPlaceHeads lists.now heads.new) }
+    ensures all { OnOk result (length heads.new ≡ 4 * op_count) }
 {
-    let mut heads = Items::new(alloc);
     for number in 0..PLACES * OP_COUNT {
         let place = number % PLACES;
         let bucket = number_bucket(NumName::EaAlign, place as i64);
         let slots = lists[number / PLACES * BUCKETS + bucket].as_slice();
         heads.push(place_head(alloc, place, slots)?)?;
     }
-    Ok(heads)
+    Ok(())
 }
 
 /// Adds one to the counts of the marks whose bits these signs have.

@@ -1,5 +1,5 @@
 // Which facts the points of a mnemonic say values of, so that others aren't looked up.
-ghost use Rattle.std.specs.Prelude.{◌≡◌, ◌<◌, ◌≤◌, ◌+◌, ◌*◌, IfOk, false, length, ◌*◌};
+ghost use Rattle.std.specs.Prelude.{◌≡◌, ◌<◌, ◌≤◌, ◌+◌, ◌*◌, [], OnOk, false, length};
 ghost use Rattle.rvs_insn.specs.Table.{op_count};
 ghost use Rattle.rvs_index.specs.Buckets.{bucket_count};
 ghost use Rattle.rvs_index.specs.Wanted as spec;
@@ -10,7 +10,6 @@ use crate::buckets::BUCKETS;
 use crate::slot::Slot;
 use rvs_base::{Items, NoMemory};
 use rvs_insn::OP_COUNT;
-use std::alloc::Global;
 
 /// Whether points of a mnemonic say values of a fact.
 #[derive(Clone, Copy)]
@@ -75,17 +74,17 @@ fn wanted_of(lists: &[Items<Slot<'_>>], mnemonic: usize) -> Wanted
 
 /// The same for each mnemonic.
 #[tactic(auto, using(crate::proofs::Wants::more_wanted))]
-pub(crate) fn all_wanted(
-    alloc: Global,
+pub(crate) fn fill_wanted(
+    wanted: &mut Items<Wanted>,
     lists: &[Items<Slot<'_>>],
-) -> Result<Items<Wanted>, NoMemory>
-    requires { length lists.now ≡ op_count * bucket_count }
-    ensures each { IfOk result (HasWanted lists.now) }
-    ensures all { IfOk result (λ wanted. length wanted ≡ op_count) }
+) -> Result<(), NoMemory>
+    requires all { length lists.now ≡ op_count * bucket_count }
+    requires none { wanted.old ≡ [] }
+    ensures each { OnOk result (HasWanted lists.now wanted.new) }
+    ensures all { OnOk result (length wanted.new ≡ op_count) }
 {
-    let mut wanted = Items::new(alloc);
     for mnemonic in 0..OP_COUNT {
         wanted.push(wanted_of(lists, mnemonic))?;
     }
-    Ok(wanted)
+    Ok(())
 }

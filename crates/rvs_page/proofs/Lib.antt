@@ -1,3 +1,6 @@
 mod Back
+pub mod Badges
+pub mod Counts
 pub mod Telling
+pub mod Tiles
 pub mod Verdicts

@@ -48,12 +48,10 @@ fn push_plain(page: &mut Vec<u8>, byte: u8) -> Result<(), NoMemory>
 fn push_control(page: &mut Vec<u8>, byte: u8) -> Result<(), NoMemory>
     ensures { OnOk result (page.new.items ≡ page.old.items ++ spec.control byte) }
 {
-    push_bytes(page, b"&#")?;
-    push_bytes(
-        page,
-        &[b'0' + byte / 100, b'0' + byte / 10 % 10, b'0' + byte % 10],
-    )?;
-    push_bytes(page, b";")
+    let hundreds = b'0' + byte / 100;
+    let tens = b'0' + byte / 10 % 10;
+    let ones = b'0' + byte % 10;
+    push_bytes(page, &[b'&', b'#', hundreds, tens, ones, b';'])
 }
 
 /// Adds a text, so that a reader of the page reads it.

@@ -1,10 +1,13 @@
 // The failures on a page.
-ghost use Rattle.std.specs.Prelude.{◌≡◌, ◌++◌, OnOk};
+ghost use Rattle.std.specs.Prelude.{◌≡◌, ◌++◌, ◌∷◌, [], OnOk, codes};
 ghost use Rattle.std.specs.List.{flat_map};
 ghost use Rattle.rvs_page.specs.Failures as spec;
+ghost use Rattle.rvs_page.specs.Pieces.{told};
+ghost use Rattle.rvs_page.specs.Said.{badge};
+ghost use Rattle.rvs_page.specs.declared.pieces.Piece.TheVariants as variant;
 
 use crate::pieces::{Piece, html, push_html, push_pieces, read_as, text};
-use crate::said::{push_badge, push_said_whole};
+use crate::said::{badge_class, badge_word, push_said_whole};
 use crate::shown::{Case, Label};
 use crate::totals::{any_fails, fails};
 use rvs_base::NoMemory;
@@ -12,6 +15,12 @@ use std::alloc::Global;
 
 /// So many cases of a test are shown at once, and the rest is folded.
 const SHOWN: usize = 8;
+
+#[rattlefmt::skip]
+const CASES_HEAD: &str = "\
+<div class=\"wide\"><table>\n<thead><tr><th class=\"n\">case</th>\
+<th>kind</th><th>point</th><th>instruction</th><th>core</th>\
+<th>reference</th></tr></thead>\n<tbody>\n";
 
 fn unlike(core: u32, reference: u32) -> &'static str
     ensures { result.now ≡ spec.unlike core reference }
@@ -64,41 +73,24 @@ fn push_case_rows(alloc: Global, page: &mut Vec<u8>, cases: &[Case]) -> Result<(
     Ok(())
 }
 
-fn push_cases_head(alloc: Global, page: &mut Vec<u8>) -> Result<(), NoMemory>
-    ensures { OnOk result (page.new.items ≡ page.old.items ++ spec.cases_head) }
-{
-    let pieces = [
-        html("<div class=\"wide\"><table>\n<thead><tr><th class=\"n\">case</th>"),
-        html("<th>kind</th><th>point</th><th>instruction</th><th>core</th>"),
-        html("<th>reference</th></tr></thead>\n<tbody>\n"),
-    ];
-    push_pieces(alloc, page, &pieces)
-}
-
 #[tactic(auto, unfolding(crate::specs::Failures::cases_table))]
 fn push_cases_table(alloc: Global, page: &mut Vec<u8>, cases: &[Case]) -> Result<(), NoMemory>
     ensures { OnOk result (page.new.items ≡ page.old.items ++ spec.cases_table cases.now) }
 {
-    push_cases_head(alloc, page)?;
+    push_html(page, CASES_HEAD)?;
     push_case_rows(alloc, page, cases)?;
     push_html(page, "</tbody>\n</table></div>\n")
-}
-
-fn push_folded_head(alloc: Global, page: &mut Vec<u8>, number: usize) -> Result<(), NoMemory>
-    ensures { OnOk result (page.new.items ≡ page.old.items ++ spec.folded_head number) }
-{
-    let pieces = [
-        html("<details>\n<summary>"),
-        Piece::Number(number as u64),
-        html(" more cases</summary>\n"),
-    ];
-    push_pieces(alloc, page, &pieces)
 }
 
 fn push_folded(alloc: Global, page: &mut Vec<u8>, cases: &[Case]) -> Result<(), NoMemory>
     ensures { OnOk result (page.new.items ≡ page.old.items ++ spec.folded cases.now) }
 {
-    push_folded_head(alloc, page, cases.len())?;
+    let pieces = [
+        html("<details>\n<summary>"),
+        Piece::Number(cases.len() as u64),
+        html(" more cases</summary>\n"),
+    ];
+    push_pieces(alloc, page, &pieces)?;
     push_cases_table(alloc, page, cases)?;
     push_html(page, "</details>\n")
 }
@@ -131,11 +123,18 @@ fn push_cases(alloc: Global, page: &mut Vec<u8>, cases: &[Case]) -> Result<(), N
     push_shown_cases(alloc, page, cases)
 }
 
-fn push_failed_name(alloc: Global, page: &mut Vec<u8>, label: &Label) -> Result<(), NoMemory>
-    ensures { OnOk result (page.new.items ≡ page.old.items ++ spec.failed_name label.now) }
+/// Adds the badge and the name of a label, up to what is said of its test.
+fn push_failed_begin(alloc: Global, page: &mut Vec<u8>, label: &Label) -> Result<(), NoMemory>
+    ensures { OnOk result (page.new.items ≡ page.old.items
+        ++ (told (variant.Html (codes "<article class=\"fail\">\n<h3>") ∷ [])
+        ++ (badge label.now.state ++ spec.failed_name label.now))) }
 {
     let pieces = [
-        html(" <a href=\"#l-"),
+        html("<article class=\"fail\">\n<h3><b class=\""),
+        html(badge_class(label.state)),
+        html("\">"),
+        html(badge_word(label.state)),
+        html("</b> <a href=\"#l-"),
         text(&label.name),
         html("\">"),
         text(&label.name),
@@ -147,9 +146,7 @@ fn push_failed_name(alloc: Global, page: &mut Vec<u8>, label: &Label) -> Result<
 fn push_failed(alloc: Global, page: &mut Vec<u8>, label: &Label) -> Result<(), NoMemory>
     ensures { OnOk result (page.new.items ≡ page.old.items ++ spec.failed_text label.now) }
 {
-    push_html(page, "<article class=\"fail\">\n<h3>")?;
-    push_badge(alloc, page, label.state)?;
-    push_failed_name(alloc, page, label)?;
+    push_failed_begin(alloc, page, label)?;
     push_said_whole(alloc, page, label)?;
     push_html(page, "</p>\n")?;
     push_cases(alloc, page, label.cases.as_slice())?;

@@ -1,13 +1,22 @@
 // The head of a page.
-ghost use Rattle.std.specs.Prelude.{◌≡◌, ◌++◌, OnOk, Some};
+ghost use Rattle.std.specs.Prelude.{◌≡◌, ◌++◌, ◌∷◌, [], OnOk, Some, codes};
 ghost use Rattle.rvs_page.specs.Head as spec;
+ghost use Rattle.rvs_page.specs.Pieces.{told};
+ghost use Rattle.rvs_page.specs.declared.pieces.Piece.TheVariants as variant;
 
 use crate::pieces::{Piece, html, push_html, push_pieces, text};
 use crate::shown::{Page, Verdict};
-use crate::style::push_style;
+use crate::style::STYLE;
 use crate::totals::Totals;
 use rvs_base::NoMemory;
 use std::alloc::Global;
+
+/// What the page begins with, up to the verdict in its title.
+#[rattlefmt::skip]
+const TITLE: &str = "\
+<!DOCTYPE html>\n<html lang=\"en\">\n<head>\n<meta charset=\"utf-8\">\n\
+<meta name=\"viewport\" content=\"width=device-width, initial-scale=1\">\n\
+<meta name=\"color-scheme\" content=\"light dark\">\n<title>rvsuite: ";
 
 fn verdict_word(verdict: Verdict) -> &'static str
     ensures { result.now ≡ spec.verdict_word verdict }
@@ -29,44 +38,33 @@ fn verdict_class(verdict: Verdict) -> &'static str
     }
 }
 
-fn push_title(
-    alloc: Global,
-    page: &mut Vec<u8>,
-    verdict: Verdict,
-    shown: &Page,
-) -> Result<(), NoMemory>
-    ensures { OnOk result (page.new.items ≡ page.old.items ++ spec.title_text verdict shown.now) }
-{
-    let pieces = [
-        html("<!DOCTYPE html>\n<html lang=\"en\">\n<head>\n<meta charset=\"utf-8\">\n"),
-        html("<meta name=\"viewport\" content=\"width=device-width, initial-scale=1\">\n"),
-        html("<meta name=\"color-scheme\" content=\"light dark\">\n<title>rvsuite: "),
-        html(verdict_word(verdict)),
-        html(", "),
-        text(&shown.device),
-        html(", "),
-        text(&shown.core.isa),
-        html("</title>\n<style>\n"),
-    ];
-    push_pieces(alloc, page, &pieces)
-}
-
 fn truth(fact: bool) -> &'static str
     ensures { result.now ≡ spec.truth fact }
 {
     if fact { "true" } else { "false" }
 }
 
-fn push_header(
+/// Adds the head, up to the numbers.
+///
+/// # Errors
+///
+/// [`NoMemory`].
+pub fn push_head(
     alloc: Global,
     page: &mut Vec<u8>,
     verdict: Verdict,
     shown: &Page,
 ) -> Result<(), NoMemory>
-    ensures { OnOk result (page.new.items ≡ page.old.items ++ spec.header_text verdict shown.now) }
+    ensures { OnOk result (page.new.items ≡ page.old.items ++ spec.head_text verdict shown.now) }
 {
     let pieces = [
-        html("</style>\n</head>\n<body>\n<main>\n<header>\n<p class=\"verdict "),
+        html(TITLE),
+        html(verdict_word(verdict)),
+        html(", "),
+        text(&shown.device),
+        html(", "),
+        text(&shown.core.isa),
+        html(STYLE),
         html(verdict_class(verdict)),
         html("\">"),
         html(verdict_word(verdict)),
@@ -85,84 +83,60 @@ fn push_header(
     push_pieces(alloc, page, &pieces)
 }
 
-/// Adds the head, up to the numbers.
-///
-/// # Errors
-///
-/// [`NoMemory`].
-#[tactic(auto, unfolding(crate::specs::Head::head_text))]
-pub fn push_head(
-    alloc: Global,
-    page: &mut Vec<u8>,
-    verdict: Verdict,
-    shown: &Page,
-) -> Result<(), NoMemory>
-    ensures { OnOk result (page.new.items ≡ page.old.items ++ spec.head_text verdict shown.now) }
-{
-    push_title(alloc, page, verdict, shown)?;
-    push_style(alloc, page)?;
-    push_header(alloc, page, verdict, shown)
-}
-
-fn push_tile<'t>(
-    alloc: Global,
-    page: &mut Vec<u8>,
-    number: u64,
-    word: &'t str,
-    class: &'t str,
-) -> Result<(), NoMemory>
-    ensures { OnOk result (page.new.items
-        ≡ page.old.items ++ spec.tile number word.now class.now) }
-{
-    let pieces = [
-        html("<div"),
-        html(class),
-        html("><strong>"),
-        Piece::Number(number),
-        html("</strong><span>"),
-        html(word),
-        html("</span></div>\n"),
-    ];
-    push_pieces(alloc, page, &pieces)
-}
-
 fn class_if(number: u64, class: &str) -> &str
     ensures { result.now ≡ spec.class_if number class.now }
 {
     if number == 0 { "" } else { class }
 }
 
-/// A number of which another than 0 is marked.
-#[tactic(auto, unfolding(crate::specs::Head::marked_tile))]
-fn push_marked<'t>(
+/// Adds the numbers that each run has.
+fn push_numbers(alloc: Global, page: &mut Vec<u8>, totals: &Totals) -> Result<(), NoMemory>
+    ensures { OnOk result (page.new.items ≡ page.old.items
+        ++ (told (variant.Html (codes "<section class=\"tiles\">\n") ∷ [])
+        ++ (spec.test_tiles totals.now ++ spec.point_tiles totals.now))) }
+{
+    let pieces = [
+        html("<section class=\"tiles\">\n<div><strong>"),
+        Piece::Number(totals.tests),
+        html("</strong><span>tests</span></div>\n<div class=\"ok\"><strong>"),
+        Piece::Number(totals.passed),
+        html("</strong><span>pass</span></div>\n<div"),
+        html(class_if(totals.failed, " class=\"bad\"")),
+        html("><strong>"),
+        Piece::Number(totals.failed),
+        html("</strong><span>fail</span></div>\n<div"),
+        html(class_if(totals.open_tests, " class=\"no\"")),
+        html("><strong>"),
+        Piece::Number(totals.open_tests),
+        html("</strong><span>not run</span></div>\n<div><strong>"),
+        Piece::Number(totals.tested),
+        html("</strong><span>points tested</span></div>\n<div><strong>"),
+        Piece::Number(totals.unsolved),
+        html("</strong><span>unsolved</span></div>\n<div><strong>"),
+        Piece::Number(totals.skipped),
+        html("</strong><span>skipped</span></div>\n"),
+    ];
+    push_pieces(alloc, page, &pieces)
+}
+
+/// Adds the numbers of logs.
+fn push_logged(
     alloc: Global,
     page: &mut Vec<u8>,
-    number: u64,
-    word: &'t str,
-    class: &'t str,
+    instructions: u64,
+    totals: &Totals,
 ) -> Result<(), NoMemory>
     ensures { OnOk result (page.new.items
-        ≡ page.old.items ++ spec.marked_tile number word.now class.now) }
+        ≡ page.old.items ++ spec.log_tiles (Some instructions) totals.now) }
 {
-    push_tile(alloc, page, number, word, class_if(number, class))
-}
-
-fn push_test_tiles(alloc: Global, page: &mut Vec<u8>, totals: &Totals) -> Result<(), NoMemory>
-    ensures { OnOk result (page.new.items ≡ page.old.items ++ spec.test_tiles totals.now) }
-{
-    push_tile(alloc, page, totals.tests, "tests", "")?;
-    push_tile(alloc, page, totals.passed, "pass", " class=\"ok\"")?;
-    push_marked(alloc, page, totals.failed, "fail", " class=\"bad\"")?;
-    push_marked(alloc, page, totals.open_tests, "not run", " class=\"no\"")
-}
-
-#[tactic(auto, unfolding(crate::specs::Head::point_tiles))]
-fn push_point_tiles(alloc: Global, page: &mut Vec<u8>, totals: &Totals) -> Result<(), NoMemory>
-    ensures { OnOk result (page.new.items ≡ page.old.items ++ spec.point_tiles totals.now) }
-{
-    push_tile(alloc, page, totals.tested, "points tested", "")?;
-    push_tile(alloc, page, totals.unsolved, "unsolved", "")?;
-    push_tile(alloc, page, totals.skipped, "skipped", "")
+    let pieces = [
+        html("<div><strong>"),
+        Piece::Number(instructions),
+        html("</strong><span>instructions</span></div>\n<div><strong>"),
+        Piece::Number(totals.hit),
+        html("</strong><span>points hit</span></div>\n"),
+    ];
+    push_pieces(alloc, page, &pieces)
 }
 
 #[tactic(auto, unfolding(crate::specs::Head::log_tiles))]
@@ -181,26 +155,11 @@ fn push_log_tiles(
     }
 }
 
-#[tactic(auto, unfolding(crate::specs::Head::log_tiles))]
-fn push_logged(
-    alloc: Global,
-    page: &mut Vec<u8>,
-    instructions: u64,
-    totals: &Totals,
-) -> Result<(), NoMemory>
-    ensures { OnOk result (page.new.items
-        ≡ page.old.items ++ spec.log_tiles (Some instructions) totals.now) }
-{
-    push_tile(alloc, page, instructions, "instructions", "")?;
-    push_tile(alloc, page, totals.hit, "points hit", "")
-}
-
 /// Adds the numbers.
 ///
 /// # Errors
 ///
 /// [`NoMemory`].
-#[tactic(auto, unfolding(crate::specs::Head::tiles_text))]
 pub fn push_tiles(
     alloc: Global,
     page: &mut Vec<u8>,
@@ -210,9 +169,7 @@ pub fn push_tiles(
     ensures { OnOk result (page.new.items
         ≡ page.old.items ++ spec.tiles_text instructions totals.now) }
 {
-    push_html(page, "<section class=\"tiles\">\n")?;
-    push_test_tiles(alloc, page, totals)?;
-    push_point_tiles(alloc, page, totals)?;
+    push_numbers(alloc, page, totals)?;
     push_log_tiles(alloc, page, instructions, totals)?;
     push_html(page, "</section>\n")
 }

@@ -1,10 +1,13 @@
 // The labels on a page, a row each.
-ghost use Rattle.std.specs.Prelude.{◌≡◌, ◌++◌, OnOk};
+ghost use Rattle.std.specs.Prelude.{◌≡◌, ◌++◌, ◌∷◌, [], OnOk, codes};
 ghost use Rattle.std.specs.List.{flat_map};
 ghost use Rattle.rvs_page.specs.Labels as spec;
+ghost use Rattle.rvs_page.specs.Pieces.{told};
+ghost use Rattle.rvs_page.specs.Said.{badge};
+ghost use Rattle.rvs_page.specs.declared.pieces.Piece.TheVariants as variant;
 
 use crate::pieces::{Piece, html, push_html, push_pieces, text};
-use crate::said::{push_badge, push_said};
+use crate::said::{badge_class, badge_word, push_said};
 use crate::shown::Label;
 use crate::totals::{hit, missed, tested, unsolved};
 use rvs_base::NoMemory;
@@ -145,15 +148,21 @@ fn push_unselected(
     push_pieces(alloc, page, &pieces)
 }
 
-fn push_row_name(alloc: Global, page: &mut Vec<u8>, label: &Label) -> Result<(), NoMemory>
-    ensures { OnOk result (page.new.items ≡ page.old.items ++ spec.row_name label.now) }
+/// Adds the name of a label and its badge, up to what is said of its test.
+fn push_row_begin(alloc: Global, page: &mut Vec<u8>, label: &Label) -> Result<(), NoMemory>
+    ensures { OnOk result (page.new.items ≡ page.old.items ++ (spec.row_name label.now
+        ++ (badge label.now.state ++ told (variant.Html (codes "</td><td>") ∷ [])))) }
 {
     let pieces = [
         html("<tr><td><a href=\"#l-"),
         text(&label.name),
         html("\">"),
         text(&label.name),
-        html("</a></td><td>"),
+        html("</a></td><td><b class=\""),
+        html(badge_class(label.state)),
+        html("\">"),
+        html(badge_word(label.state)),
+        html("</b></td><td>"),
     ];
     push_pieces(alloc, page, &pieces)
 }
@@ -167,9 +176,7 @@ fn push_selected(
     ensures { OnOk result (page.new.items
         ≡ page.old.items ++ spec.selected_row counted label.now) }
 {
-    push_row_name(alloc, page, label)?;
-    push_badge(alloc, page, label.state)?;
-    push_html(page, "</td><td>")?;
+    push_row_begin(alloc, page, label)?;
     push_said(alloc, page, label)?;
     push_html(page, "</td>")?;
     push_points_bar(alloc, page, label)?;

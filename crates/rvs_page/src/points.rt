@@ -1,12 +1,14 @@
 // The points on a page, label by label.
-ghost use Rattle.std.specs.Prelude.{◌≡◌, ◌++◌, OnOk};
+ghost use Rattle.std.specs.Prelude.{◌≡◌, ◌++◌, ◌∷◌, [], OnOk, codes};
 ghost use Rattle.std.specs.List.{flat_map};
+ghost use Rattle.rvs_page.specs.Pieces.{told};
 ghost use Rattle.rvs_page.specs.Points as spec;
+ghost use Rattle.rvs_page.specs.declared.pieces.Piece.TheVariants as variant;
 
 use crate::pieces::{Piece, html, push_html, push_pieces, text};
 use crate::shown::{Label, Point, Skipped};
 use crate::totals::{tested, unsolved};
-use rvs_base::{NoMemory, Text};
+use rvs_base::NoMemory;
 use std::alloc::Global;
 
 fn differs_class(differs: bool) -> &'static str
@@ -47,39 +49,42 @@ fn push_case_cell(
     }
 }
 
-fn push_names<'t>(
-    alloc: Global,
-    page: &mut Vec<u8>,
-    kind: &'t Text,
-    key: &'t Text,
-) -> Result<(), NoMemory>
-    ensures { OnOk result (page.new.items ≡ page.old.items ++ spec.names_cells kind.now key.now) }
+fn push_names(alloc: Global, page: &mut Vec<u8>, point: &Point) -> Result<(), NoMemory>
+    ensures { OnOk result (page.new.items
+        ≡ page.old.items ++ spec.names_cells point.now.kind point.now.key) }
 {
     let pieces = [
         html("</td><td>"),
-        text(kind),
+        text(&point.kind),
         html("</td><td class=\"key\">"),
-        text(key),
+        text(&point.key),
         html("</td>"),
     ];
     push_pieces(alloc, page, &pieces)
 }
 
 fn push_counted(alloc: Global, page: &mut Vec<u8>, hits: u64) -> Result<(), NoMemory>
-    ensures { OnOk result (page.new.items ≡ page.old.items ++ spec.counted_cell hits) }
+    ensures { OnOk result (page.new.items ≡ page.old.items ++ (spec.counted_cell hits
+        ++ told (variant.Html (codes "</tr>\n") ∷ []))) }
 {
-    let pieces = [html("<td class=\"n\">"), Piece::Number(hits), html("</td>")];
+    let pieces = [
+        html("<td class=\"n\">"),
+        Piece::Number(hits),
+        html("</td></tr>\n"),
+    ];
     push_pieces(alloc, page, &pieces)
 }
 
+/// Adds how often a point is hit, where that is counted, and the end of its row.
 #[tactic(auto, unfolding(crate::specs::Points::hits_cell))]
 fn push_hits(alloc: Global, page: &mut Vec<u8>, counted: bool, hits: u64) -> Result<(), NoMemory>
-    ensures { OnOk result (page.new.items ≡ page.old.items ++ spec.hits_cell counted hits) }
+    ensures { OnOk result (page.new.items ≡ page.old.items ++ (spec.hits_cell counted hits
+        ++ told (variant.Html (codes "</tr>\n") ∷ []))) }
 {
     if counted {
         push_counted(alloc, page, hits)
     } else {
-        Ok(())
+        push_html(page, "</tr>\n")
     }
 }
 
@@ -93,9 +98,8 @@ fn push_point(
     ensures { OnOk result (page.new.items ≡ page.old.items ++ spec.point_row counted point.now) }
 {
     push_case_cell(alloc, page, point.case, point.differs)?;
-    push_names(alloc, page, &point.kind, &point.key)?;
-    push_hits(alloc, page, counted, point.hits)?;
-    push_html(page, "</tr>\n")
+    push_names(alloc, page, point)?;
+    push_hits(alloc, page, counted, point.hits)
 }
 
 fn no_hits(counted: bool) -> &'static str

@@ -8,7 +8,8 @@ use crate::totals::tested;
 use rvs_base::NoMemory;
 use std::alloc::Global;
 
-fn badge_class(state: State) -> &'static str
+/// The class of the badge of a state.
+pub fn badge_class(state: State) -> &'static str
     ensures { result.now ≡ spec.badge_class state }
 {
     match state {
@@ -20,7 +21,8 @@ fn badge_class(state: State) -> &'static str
     }
 }
 
-fn badge_word(state: State) -> &'static str
+/// What the badge of a state says.
+pub fn badge_word(state: State) -> &'static str
     ensures { result.now ≡ spec.badge_word state }
 {
     match state {
@@ -30,24 +32,6 @@ fn badge_word(state: State) -> &'static str
         State::Pass { .. } => "PASS",
         _ => "FAIL",
     }
-}
-
-/// Adds the badge of a state.
-///
-/// # Errors
-///
-/// [`NoMemory`].
-pub fn push_badge(alloc: Global, page: &mut Vec<u8>, state: State) -> Result<(), NoMemory>
-    ensures { OnOk result (page.new.items ≡ page.old.items ++ spec.badge state) }
-{
-    let pieces = [
-        html("<b class=\""),
-        html(badge_class(state)),
-        html("\">"),
-        html(badge_word(state)),
-        html("</b>"),
-    ];
-    push_pieces(alloc, page, &pieces)
 }
 
 fn push_cases_said(alloc: Global, page: &mut Vec<u8>, label: &Label) -> Result<(), NoMemory>
@@ -90,36 +74,18 @@ fn push_words_said(
     push_pieces(alloc, page, &pieces)
 }
 
-fn push_other(page: &mut Vec<u8>) -> Result<(), NoMemory>
-    ensures { OnOk result (page.new.items ≡ page.old.items ++ spec.other_said) }
-{
-    push_html(page, "its files are of another test")
-}
-
-fn push_none(page: &mut Vec<u8>) -> Result<(), NoMemory>
-    ensures { OnOk result (page.new.items ≡ page.old.items ++ spec.none_said) }
-{
-    push_html(page, "no signature")
-}
-
-fn push_long(page: &mut Vec<u8>) -> Result<(), NoMemory>
-    ensures { OnOk result (page.new.items ≡ page.old.items ++ spec.long_said) }
-{
-    push_html(page, "signature too long")
-}
-
 /// Adds what is said of a test whose words needn't be compared one by one.
-#[tactic(auto, unfolding(crate::specs::Said::state_said))]
+#[tactic(auto, unfolding(crate::specs::Said::state_said, crate::specs::Said::other_said, crate::specs::Said::none_said, crate::specs::Said::long_said))]
 fn push_state_said(alloc: Global, page: &mut Vec<u8>, state: State) -> Result<(), NoMemory>
     ensures { OnOk result (page.new.items ≡ page.old.items ++ spec.state_said state) }
 {
     match state {
         State::NoTest => Ok(()),
         State::NotRun => Ok(()),
-        State::OtherTest => push_other(page),
+        State::OtherTest => push_html(page, "its files are of another test"),
         State::Pass { words } => push_words_count(alloc, page, words),
-        State::NoSignature => push_none(page),
-        State::TooLong => push_long(page),
+        State::NoSignature => push_html(page, "no signature"),
+        State::TooLong => push_html(page, "signature too long"),
         State::BadLine { line } => push_bad_line(alloc, page, line),
         State::Lengths { device, reference } => push_lengths(alloc, page, device, reference),
         State::Differs { .. } => Ok(()),

@@ -74,8 +74,7 @@ pub fn tested(label: &Label) -> usize
 pub fn unsolved(label: &Label) -> usize
     ensures { result ≡ spec.unsolved label.now }
 {
-    let points = label.points.as_slice();
-    points.iter().filter(|point| point.case.is_none()).count()
+    label.points.as_slice().len() - tested(label)
 }
 
 /// How many points the logs hit.
@@ -96,12 +95,7 @@ pub fn hit(label: &Label) -> usize
 pub fn missed(label: &Label) -> usize
     ensures { result ≡ spec.missed label.now }
 {
-    label
-        .points
-        .as_slice()
-        .iter()
-        .filter(|point| point.hits == 0)
-        .count()
+    label.points.as_slice().len() - hit(label)
 }
 
 /// The numbers of all labels. One stands at 2^64 - 1 where it would be greater.

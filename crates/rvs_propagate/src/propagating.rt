@@ -10,7 +10,7 @@ ghost use Rattle.rvs_propagate.specs.Propagate.{file_name, tracks_more, propagat
 ghost use Rattle.rvs_coverage.specs.Telling.{HasToldOf, as_planned, lines_of_logs};
 ghost use Rattle.rvs_coverage.specs.LogReport.{takes_logs, reads_logs};
 
-use rvs_base::{Host, Items, NoMemory, Sink, Text, Window};
+use rvs_base::{Host, Items, NoMemory, Sink, Text, Window, release};
 use rvs_cgf::Groups;
 use rvs_count::zeros;
 use rvs_coverage::{
@@ -158,7 +158,9 @@ fn track_all<H: Host, E: Sink>(
     let none = nothing(alloc, groups, logs.len())?;
     let tracker = new_tracker(alloc, groups, Window { lo: 0, hi: 0 })?;
     let mut tracking = Tracking { tracker };
-    take_onto(alloc, host, err, asked.progress, &mut tracking, none, logs)
+    let traced = take_onto(alloc, host, err, asked.progress, &mut tracking, none, logs);
+    release(tracking);
+    traced
 }
 
 /// With what was tracked in a log more.

@@ -2,7 +2,7 @@
 use Rattle.std.proofs.Common.{◌≡◌, ℕ, ◌+◌, ◌<◌, List, [], ◌∷◌, ◌++◌, length, map, take}
 use Rattle.std.proofs.Common.{get_or, zero, suc, sym, ap, ◌∙◌, subst, arith, append_assoc}
 use Rattle.std.proofs.Common.{append-nil}
-use Rattle.std.specs.Prelude.{◌-◌, All, OnOk, Result, Some, slice_get, unwrap_or}
+use Rattle.std.specs.Prelude.{ℤ, pos, negsuc, ◌-◌, All, OnOk, Result, Some, slice_get, unwrap_or}
 use Rattle.std.proofs.lemmas.Option.{slice_get_within, get_or_from_slice_get}
 use Rattle.rvs_insn.specs.Fields.{Fields}
 use Rattle.rvs_points.specs.PointView.{point_view, label_view}
@@ -15,14 +15,19 @@ use Rattle.rvs_choice.specs.declared.solved.Solved.{Solved}
 use Rattle.rvs_solver.proofs.Search.{Each}
 use Rattle.rvs_solver.proofs.Operands.{all_from_each}
 use Rattle.rvs_test_text.specs.declared.statement.Statement.{Statement}
-use Rattle.rvs_test_text.specs.declared.statement.Statement.TheVariants.{Label}
+use Rattle.rvs_test_text.specs.declared.statement.Statement.TheVariants.{Label, Plain}
 use Rattle.rvs_test_text.specs.Statements.{printed, IsLinked, IsPrinted}
 use Rattle.rvs_test_text.specs.TestText.{Point as Named, claim_lines, front, header, step_limit}
 use Rattle.rvs_test_text.specs.TestText.{test_text, ended, text_of, case_statements, begin, clear}
 use Rattle.rvs_test_text.specs.TestText.{last_register, cases, halt, loop, code_part, fixed_data}
-use Rattle.rvs_test_text.specs.TestText.{slots}
+use Rattle.rvs_test_text.specs.TestText.{slots, pointer, marker, clear_scratch, copy_word, source}
+use Rattle.rvs_test_text.specs.TestText.{store_case, jump_case, frame, unlinked, save, fill_scratch}
+use Rattle.rvs_test_text.specs.TestText.{reserve}
+use Rattle.rvs_insn.specs.declared.op.Op.{Op}
+use Rattle.rvs_test.specs.AtomicLines.{atomic_end, atomic_lines}
+use Rattle.rvs_choice.specs.Choice.{ChoiceValue, fields_of}
 use Rattle.rvs_test_text.specs.TestText.{data_part, claim_line, line_of_claim, last_rd}
-use Rattle.rvs_test_text.specs.declared.statement.Name.TheVariants.{EndSignature}
+use Rattle.rvs_test_text.specs.declared.statement.Name.TheVariants.{Case, EndSignature}
 use Rattle.rvs_test_text.specs.declared.claim.Claim.{Claim}
 use Rattle.rvs_test.specs.Made.{named, named_at}
 use Rattle.rvs_test_text.specs.Claim.{IsReady, AreReady}
@@ -77,8 +82,107 @@ ready_at isa (c ∷ cs) (suc k) s h l is = ready_at isa cs k s h.1 (omega arith)
 -- ---- a list that grew by two statements and by two lists
 
 pub end_grows : (old : List Statement) (s t : Statement) (us vs : List Statement)
-    → (((old ++ s ∷ []) ++ t ∷ []) ++ us) ++ vs ≡ old ++ (s ∷ t ∷ (us ++ vs))
+    → ((old ++ s ∷ t ∷ []) ++ us) ++ vs ≡ old ++ (s ∷ t ∷ (us ++ vs))
 end_grows old s t us vs = simp append_assoc
+
+-- ---- the case of a store, which grew by its parts
+
+store_grows : (old a b c d e clear s1 s2 : List Statement) (s t : Statement)
+    (us vs : List Statement) → a ≡ old ++ clear → b ≡ (a ++ s1) ++ s2 → c ≡ b ++ s ∷ t ∷ []
+    → d ≡ c ++ us → e ≡ d ++ vs
+    → e ≡ old ++ (clear ++ (s1 ++ (s2 ++ (s ∷ t ∷ (us ++ vs)))))
+store_grows old a b c d e clear s1 s2 s t us vs h0 h1 h2 h3 h4 =
+    let whole :
+    (((((old ++ clear) ++ s1) ++ s2) ++ s ∷ t ∷ []) ++ us) ++ vs
+    ≡ old ++ (clear ++ (s1 ++ (s2 ++ (s ∷ t ∷ (us ++ vs))))) =
+    simp append_assoc in
+    h4
+    ∙ ap (λ l. l ++ vs)
+    (h3
+    ∙ ap (λ l. l ++ us) (h2 ∙ ap (λ l. l ++ s ∷ t ∷ []) (h1 ∙ ap (λ l. (l ++ s1) ++ s2) h0)))
+    ∙ whole
+
+pub store_there : (v : ChoiceValue) (k p m : ℕ) (i : Fields)
+    (old a b c d e clear us vs : List Statement) → p ≡ pointer v → m ≡ marker v
+    → i ≡ fields_of v → clear ≡ clear_scratch p → us ≡ copy_word p m k (pos 0)
+    → vs ≡ copy_word p m k (pos 4) → a ≡ old ++ clear
+    → b ≡ (a ++ source v.rs1 v.w1) ++ source v.rs2 v.w2 → c ≡ b ++ Label (Case k) ∷ Plain i ∷ []
+    → d ≡ c ++ us → e ≡ d ++ vs → e ≡ old ++ store_case k v
+store_there v k p m i old a b c d e clear us vs hp hm hi hc hu hv h0 h1 h2 h3 h4 =
+    let s1 = source v.rs1 v.w1 in
+    let s2 = source v.rs2 v.w2 in
+    let symbol = Label (Case k) in
+    let front = clear_scratch (pointer v) in
+    let copies : (z : ℤ) → copy_word p m k z ≡ copy_word (pointer v) (marker v) k z =
+    λ z. ap (λ x. copy_word x m k z) hp ∙ ap (λ x. copy_word (pointer v) x k z) hm in
+    let first = copy_word (pointer v) (marker v) k (pos 0) in
+    store_grows old a b c d e clear s1 s2 symbol (Plain i) us vs h0 h1 h2 h3 h4
+    ∙ ap (λ x. old ++ (x ++ (s1 ++ (s2 ++ (symbol ∷ Plain i ∷ (us ++ vs))))))
+    (hc ∙ ap clear_scratch hp)
+    ∙ ap (λ x. old ++ (front ++ (s1 ++ (s2 ++ (symbol ∷ Plain x ∷ (us ++ vs)))))) hi
+    ∙ ap (λ x. old ++ (front ++ (s1 ++ (s2 ++ (symbol ∷ Plain (fields_of v) ∷ (x ++ vs))))))
+    (hu ∙ copies (pos 0))
+    ∙ ap (λ x. old ++ (front ++ (s1 ++ (s2 ++ (symbol ∷ Plain (fields_of v) ∷ (first ++ x))))))
+    (hv ∙ copies (pos 4))
+
+-- ---- the case of a jump
+
+four_grow : (old a b f w : List Statement)
+    → (((old ++ a) ++ b) ++ f) ++ w ≡ old ++ (a ++ (b ++ (f ++ w)))
+four_grow old a b f w = simp append_assoc
+
+frame_joins : (z : ℤ) (k m : ℕ) (j : Fields) (rest : List Statement)
+    → frame z k m j [] ++ rest ≡ frame z k m j rest
+frame_joins (pos n) k m j rest = simp append_assoc
+frame_joins (negsuc n) k m j rest = simp append_assoc
+
+pub jump_there : (v : ChoiceValue) (k p m rd : ℕ) (z : ℤ) (j : Fields)
+    (old a b c w : List Statement) → p ≡ pointer v → m ≡ marker v → rd ≡ unwrap_or v.rd 0
+    → z ≡ unwrap_or v.imm (pos 0) → j ≡ unlinked v → w ≡ save p k m rd
+    → a ≡ (old ++ source v.rs1 v.w1) ++ source v.rs2 v.w2 → b ≡ a ++ frame z k m j []
+    → c ≡ b ++ w → c ≡ old ++ jump_case k v
+jump_there v k p m rd z j old a b c w hp hm hr hz hj hw h0 h1 h2 =
+    let s1 = source v.rs1 v.w1 in
+    let s2 = source v.rs2 v.w2 in
+    let f = frame z k m j [] in
+    let imm = unwrap_or v.imm (pos 0) in
+    h2
+    ∙ ap (λ l. l ++ w) (h1 ∙ ap (λ l. l ++ f) h0)
+    ∙ four_grow old s1 s2 f w
+    ∙ ap (λ x. old ++ (s1 ++ (s2 ++ x)))
+    (frame_joins z k m j w
+    ∙ ap (λ x. frame x k m j w) hz
+    ∙ ap (λ x. frame imm k x j w) hm
+    ∙ ap (λ x. frame imm k (marker v) x w) hj
+    ∙ ap (λ x. frame imm k (marker v) (unlinked v) x)
+    (hw
+    ∙ ap (λ x. save x k m rd) hp
+    ∙ ap (λ x. save (pointer v) k x rd) hm
+    ∙ ap (λ x. save (pointer v) k (marker v) x) hr))
+
+-- ---- the case of an atomic row
+
+five_grow : (old f a b g e : List Statement)
+    → ((((old ++ f) ++ a) ++ b) ++ g) ++ e ≡ old ++ (f ++ (a ++ (b ++ (g ++ e))))
+five_grow old f a b g e = simp append_assoc
+
+pub atomic_there : (v : ChoiceValue) (k p m r : ℕ) (o : Op) (old a b c d f : List Statement)
+    → f ≡ fill_scratch p m → o ≡ v.op → r ≡ unwrap_or v.rs1 0 → a ≡ old ++ f
+    → b ≡ (a ++ source v.rs1 v.w1) ++ source v.rs2 v.w2 → c ≡ b ++ reserve o r m
+    → d ≡ c ++ atomic_end k v p m → d ≡ old ++ atomic_lines k v p m
+unfolding atomic_lines
+atomic_there v k p m r o old a b c d f hf ho hr h0 h1 h2 h3 =
+    let s1 = source v.rs1 v.w1 in
+    let s2 = source v.rs2 v.w2 in
+    let g = reserve o r m in
+    let e = atomic_end k v p m in
+    let front = fill_scratch p m in
+    h3
+    ∙ ap (λ l. l ++ e) (h2 ∙ ap (λ l. l ++ g) (h1 ∙ ap (λ l. (l ++ s1) ++ s2) h0))
+    ∙ five_grow old f s1 s2 g e
+    ∙ ap (λ x. old ++ (x ++ (s1 ++ (s2 ++ (g ++ e))))) hf
+    ∙ ap (λ x. old ++ (front ++ (s1 ++ (s2 ++ (reserve x r m ++ e))))) ho
+    ∙ ap (λ x. old ++ (front ++ (s1 ++ (s2 ++ (reserve v.op x m ++ e))))) hr
 
 -- ---- parts of the text
 

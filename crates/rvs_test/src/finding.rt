@@ -1,6 +1,6 @@
 // The first choices of a label's points.
-ghost use Rattle.std.specs.Prelude.{◌≡◌, ◌≤◌, ◌<◌, ◌+◌, ◌++◌, ◌∷◌, [], IfOk, length, take, sum_by};
-ghost use Rattle.std.specs.Prelude.{option_to_list};
+ghost use Rattle.std.specs.Prelude.{◌≡◌, ◌≤◌, ◌<◌, ◌+◌, ◌++◌, ◌∷◌, [], IfOk, OnOk, length, take};
+ghost use Rattle.std.specs.Prelude.{option_to_list, sum_by};
 ghost use Rattle.std.specs.List.{range_with_len};
 ghost use Rattle.rvs_points.specs.PointView.{label_view, point_view};
 ghost use Rattle.rvs_points.specs.Valid.{IsValid};
@@ -9,7 +9,7 @@ ghost use Rattle.rvs_test.specs.Made.{places, claims_of, unsolved_of, cases_of};
 ghost use Rattle.rvs_test.specs.Found.{FoundValue, found_view, found_before, nothing_found};
 ghost use Rattle.rvs_test.specs.Found.{with_one};
 
-use rvs_base::{Items, NoMemory};
+use rvs_base::{Items, NoMemory, beside};
 use rvs_expr::Steps;
 use rvs_insn::IsaSpec;
 use rvs_points::Label;
@@ -39,28 +39,41 @@ fn nothing(alloc: Global) -> Found
     }
 }
 
-/// One more point, with what solves it.
-fn with_point(found: Found, point: usize, solved: Option<Solved>) -> Result<Found, NoMemory>
-    ensures { IfOk result (λ f. found_view f ≡ with_one (found_view found) point solved) }
+/// Adds a point, with what solves it.
+fn add_point(found: &mut Found, point: usize, solved: Option<Solved>) -> Result<(), NoMemory>
+    ensures { OnOk result (
+        found_view found.new ≡ with_one (found_view found.old) point solved) }
 {
-    let Found {
-        mut cases,
-        mut claims,
-        mut unsolved,
-    } = found;
     match solved {
         Some(solved) => {
-            let case = claims.as_slice().len();
-            cases.push(solved)?;
-            claims.push(Claim { case, point })?;
+            let case = found.claims.as_slice().len();
+            found.cases.push(solved)?;
+            found.claims.push(Claim { case, point })?;
         }
-        None => unsolved.push(point)?,
+        None => found.unsolved.push(point)?,
     }
-    Ok(Found {
-        cases,
-        claims,
-        unsolved,
-    })
+    Ok(())
+}
+
+/// Adds the points of a label, in their order.
+fn add_points<L: Ledger>(
+    alloc: Global,
+    label: &Label,
+    spec: &IsaSpec,
+    steps: &mut Steps<L>,
+    found: &mut Found,
+) -> Result<(), NoMemory>
+    requires valid { IsValid spec.now (label_view label.now) }
+    requires none { found_view found.old ≡ nothing_found }
+    ensures found { OnOk result (found_view found.new
+        ≡ found_before spec.now (label_view label.now) (length (label_view label.now).points)) }
+    ensures cost { steps.new ≤ steps.old + bound_of_label spec.now (label_view label.now) }
+{
+    for point in 0..label.points.as_slice().len() {
+        let solved = solve(alloc, label, point, spec, steps)?;
+        add_point(found, point, solved)?;
+    }
+    Ok(())
 }
 
 /// What solves the points of a label, in their order.
@@ -77,9 +90,6 @@ pub(crate) fn find_cases<L: Ledger>(
     ensures cost { steps.new ≤ steps.old + bound_of_label spec.now (label_view label.now) }
 {
     let mut found = nothing(alloc);
-    for point in 0..label.points.as_slice().len() {
-        let solved = solve(alloc, label, point, spec, steps)?;
-        found = with_point(found, point, solved)?;
-    }
+    let ((), found) = beside(add_points(alloc, label, spec, steps, &mut found), found)?;
     Ok(found)
 }

@@ -58,8 +58,10 @@ fn add_back_body(list: &mut Vec<Statement>, k: u32, m: u8, words: u32) -> Result
         list.push(Statement::To(jal(), Name::Done(k)))?;
         return Ok(());
     }
-    list.push(Statement::Plain(addi(m, m, 2)))?;
-    list.push(Statement::To(jal(), Name::Done(k)))?;
+    list.extend_from_slice(&[
+        Statement::Plain(addi(m, m, 2)),
+        Statement::To(jal(), Name::Done(k)),
+    ])?;
     add_filler(list, words - 1)
 }
 
@@ -74,9 +76,11 @@ fn add_forward(
     ensures { OnOk result (
         list.new.items ≡ list.old.items ++ spec.forward_frame words k m jump []) }
 {
-    list.push(Statement::Plain(addi(m, 0, 1)))?;
-    list.push(Statement::Label(Name::Case(k)))?;
-    list.push(Statement::To(jump, Name::Target(k)))?;
+    list.extend_from_slice(&[
+        Statement::Plain(addi(m, 0, 1)),
+        Statement::Label(Name::Case(k)),
+        Statement::To(jump, Name::Target(k)),
+    ])?;
     add_skip(list, m, words)?;
     list.push(Statement::Label(Name::Target(k)))?;
     Ok(())
@@ -93,13 +97,17 @@ fn add_backward(
     ensures { OnOk result (
         list.new.items ≡ list.old.items ++ spec.backward_frame words k m jump []) }
 {
-    list.push(Statement::Plain(addi(m, 0, 1)))?;
-    list.push(Statement::To(jal(), Name::Case(k)))?;
-    list.push(Statement::Label(Name::Target(k)))?;
+    list.extend_from_slice(&[
+        Statement::Plain(addi(m, 0, 1)),
+        Statement::To(jal(), Name::Case(k)),
+        Statement::Label(Name::Target(k)),
+    ])?;
     add_back_body(list, k, m, words)?;
-    list.push(Statement::Label(Name::Case(k)))?;
-    list.push(Statement::To(jump, Name::Target(k)))?;
-    list.push(Statement::Label(Name::Done(k)))?;
+    list.extend_from_slice(&[
+        Statement::Label(Name::Case(k)),
+        Statement::To(jump, Name::Target(k)),
+        Statement::Label(Name::Done(k)),
+    ])?;
     Ok(())
 }
 

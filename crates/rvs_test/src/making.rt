@@ -15,7 +15,7 @@ ghost use Rattle.rvs_points.specs.Limits.{most_points};
 use crate::finding::{Found, find_cases};
 use crate::made::Made;
 use crate::writing::{push_claims, push_code, push_data, push_front};
-use rvs_base::{NoMemory, Text};
+use rvs_base::{NoMemory, Text, beside, release};
 use rvs_expr::Steps;
 use rvs_insn::{Format, IsaSpec, format};
 use rvs_points::Label;
@@ -154,20 +154,22 @@ pub fn make_test<L: Ledger>(
     ensures cost { steps.new ≤ steps.old + bound_of_label spec.now (label_view label.now) }
 {
     let found = find_cases(alloc, label, spec, steps)?;
+    let limit = step_limit(found.cases.as_slice());
+    let text = text_for(
+        alloc,
+        label,
+        spec,
+        found.claims.as_slice(),
+        found.cases.as_slice(),
+        limit,
+    );
+    let (text, found) = beside(text, found)?;
     let Found {
         cases,
         claims,
         unsolved,
     } = found;
-    let limit = step_limit(cases.as_slice());
-    let text = text_for(
-        alloc,
-        label,
-        spec,
-        claims.as_slice(),
-        cases.as_slice(),
-        limit,
-    )?;
+    release(cases);
     Ok(Made {
         text,
         claims,

@@ -10,7 +10,7 @@ ghost use Rattle.rvs_test.specs.Room.{hold};
 
 use crate::finding::find_cases;
 use crate::sizes::code_bytes;
-use rvs_base::NoMemory;
+use rvs_base::{NoMemory, release};
 use rvs_expr::Steps;
 use rvs_insn::IsaSpec;
 use rvs_points::Label;
@@ -54,5 +54,7 @@ pub fn has_room<L: Ledger>(
     }
     let found = find_cases(alloc, label, spec, steps)?;
     let cases = found.cases.as_slice();
-    Ok(hold(spec, code_bytes(spec, cases), cases.len()))
+    let has = hold(spec, code_bytes(spec, cases), cases.len());
+    release(found);
+    Ok(has)
 }

@@ -62,24 +62,6 @@ fn halt() -> [Statement; 6]
     ]
 }
 
-fn label_line(alloc: Global, name: &str) -> Result<Text, NoMemory>
-    ensures { IfOk result (λ text. text ≡ codes "#! label " ++ name.now) }
-{
-    Ok(Text::from(format!(in alloc; "#! label {name}")?))
-}
-
-fn isa_line(alloc: Global, name: &str) -> Result<Text, NoMemory>
-    ensures { IfOk result (λ text. text ≡ codes "#! isa " ++ name.now) }
-{
-    Ok(Text::from(format!(in alloc; "#! isa {name}")?))
-}
-
-fn steps_line(alloc: Global, steps: u64) -> Result<Text, NoMemory>
-    ensures { IfOk result (λ text. text ≡ layout.steps_line steps) }
-{
-    Ok(Text::from(format!(in alloc; "#! steps {steps}")?))
-}
-
 fn claim_line(alloc: Global, case: usize, point: &Point) -> Result<Text, NoMemory>
     ensures { IfOk result (λ text. text ≡ layout.claim_line case (named (point_view point.now))) }
 {
@@ -88,7 +70,17 @@ fn claim_line(alloc: Global, case: usize, point: &Point) -> Result<Text, NoMemor
     Ok(Text::from(format!(in alloc; "#! case {case} {kind} {key}")?))
 }
 
-/// The first four lines.
+fn front_lines(alloc: Global, name: &str, isa: &str, steps: u64) -> Result<Text, NoMemory>
+    ensures { IfOk result (λ text. text ≡ codes "#! rvsuite test 1\n#! label " ++ (name.now
+        ++ (codes "\n#! isa " ++ (isa.now ++ (10 ∷ (layout.steps_line steps ++ 10 ∷ [])))))) }
+{
+    let lines = format!(in alloc;
+        "#! rvsuite test 1\n#! label {name}\n#! isa {isa}\n#! steps {steps}\n"
+    )?;
+    Ok(Text::from(lines))
+}
+
+/// Adds the first four lines.
 pub(crate) fn push_front(
     alloc: Global,
     out: &mut Text,
@@ -98,13 +90,9 @@ pub(crate) fn push_front(
 ) -> Result<(), NoMemory>
     ensures { OnOk result (out.new ≡ out.old ++ ended (layout.front name.now spec.now steps)) }
 {
-    push_line(out, "#! rvsuite test 1")?;
-    push_line(out, label_line(alloc, name)?.as_str())?;
-    push_line(
-        out,
-        isa_line(alloc, isa_text(alloc, spec)?.as_str())?.as_str(),
-    )?;
-    push_line(out, steps_line(alloc, steps)?.as_str())
+    let isa = isa_text(alloc, spec)?;
+    let lines = front_lines(alloc, name, isa.as_str(), steps)?;
+    out.push_str(lines.as_str())
 }
 
 /// One line for each claim.

@@ -1,10 +1,12 @@
 -- The words of each command ask for it.
 use Rattle.std.proofs.Common.{◌≡◌, ◌≤◌, ℕ, true, false, List, [], ◌∷◌, ◌++◌, length}
-use Rattle.std.proofs.Common.{Option, Some, refl, ap, ◌∙◌, bytes_eq, codes, append-nil, arith}
-use Rattle.std.specs.Prelude.{◌&&◌, nat_le, map, option_map, unwrap_or}
+use Rattle.std.proofs.Common.{Option, Some, refl, ap, sym, subst, ◌∙◌, bytes_eq, codes, append-nil}
+use Rattle.std.proofs.Common.{arith}
+use Rattle.std.specs.Prelude.{◌&&◌, nat_le, map, option_map, unwrap_or, Result}
 use Rattle.std.specs.List.{list_all, list_any}
 use Rattle.std.proofs.lemmas.Bool.Decides.{nat_tests}
 use Rattle.std.proofs.lemmas.List.{length-map}
+use Rattle.rvs_text.specs.Options.{◌>>=◌}
 use Rattle.rvs_words.specs.Words.{pairs_of, is_among, options_in, values_of}
 use Rattle.rvs_words.specs.Words.{are_known, only}
 use Rattle.rvs_words.specs.Words.{at_most_one}
@@ -16,6 +18,8 @@ use Rattle.rvs_words.specs.Commands.{Values, with_options, some_of, steps_of}
 use Rattle.rvs_words.specs.Commands.{normalize_options, normalize_of, generate_options, generate_of}
 use Rattle.rvs_words.specs.Commands.{reference_options, reference_of, run_options, run_of}
 use Rattle.rvs_words.specs.Commands.{run_groups_of}
+use Rattle.rvs_words.specs.Reading.{Answers}
+use Rattle.rvs_words.specs.declared.unread.Unread.{Unread}
 use Rattle.rvs_words.specs.declared.words.Pair.{Pair}
 use Rattle.rvs_words.specs.declared.command.Command.{Command}
 use Rattle.rvs_words.specs.declared.command.Command.TheVariants.{Unknown}
@@ -78,6 +82,15 @@ pub asked : (names : List (List ℕ)) (f : Values → Option Command) (words : L
     → options_in (is_among names) words ≡ Some ps → f (of-values ps) ≡ Some command
     → with_options names f words ≡ Some command
 asked names f words ps command e h = grind arith
+
+-- what is answered of the pairs is answered of the words
+pub by-pairs : (names : List (List ℕ)) (f : Values → Option Command) (words : List (List ℕ))
+    (options ps : List Pair) (answer : Result Command Unread)
+    → options_in (is_among names) words ≡ Some options → ps ≡ options
+    → Answers answer (f (of-values ps)) → Answers answer (with_options names f words)
+by-pairs names f words options ps answer e same h =
+    subst (Answers answer) (ap (λ (l : List Pair). f (of-values l)) same
+    ∙ ap (λ o. o >>= (λ (l : List Pair). f (of-values l))) (sym e)) h
 
 -- a command of the pairs, each of whose names is known
 pub of-pairs : (names : List (List ℕ)) (f : Values → Option Command) (words : List (List ℕ))

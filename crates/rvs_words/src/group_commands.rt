@@ -73,13 +73,28 @@ pub fn read_generate(alloc: Global, words: &[String]) -> Result<Command, Unread>
 {
     let names = ["--isa", "--cgf", "--work", "--part", "--families"];
     let options = read_options(alloc, words, &names)?;
-    let pairs = options.as_slice();
+    generate_asked(alloc, options.as_slice())
+}
+
+/// Reads the options of `generate`.
+///
+/// # Errors
+///
+/// [`Unread`].
+fn generate_asked(alloc: Global, pairs: &[Pair]) -> Result<Command, Unread>
+    ensures { Answers result (generate_of (λ name. values_of name pairs.now)) }
+{
+    let isa = only_value(alloc, pairs, "--isa")?;
+    let groups = group_files(alloc, pairs)?;
+    let work = only_value(alloc, pairs, "--work")?;
+    let part = read_part(alloc, pairs)?;
+    let families = read_families(alloc, pairs)?;
     Ok(Command::Generate(GenerateArguments {
-        isa: only_value(alloc, pairs, "--isa")?,
-        groups: group_files(alloc, pairs)?,
-        work: only_value(alloc, pairs, "--work")?,
-        part: read_part(alloc, pairs)?,
-        families: read_families(alloc, pairs)?,
+        isa,
+        groups,
+        work,
+        part,
+        families,
     }))
 }
 
@@ -100,14 +115,30 @@ pub fn read_coverage(alloc: Global, words: &[String]) -> Result<Command, Unread>
         "--progress",
     ];
     let options = read_options(alloc, words, &names)?;
-    let pairs = options.as_slice();
+    coverage_asked(alloc, options.as_slice())
+}
+
+/// Reads the options of `coverage`.
+///
+/// # Errors
+///
+/// [`Unread`].
+fn coverage_asked(alloc: Global, pairs: &[Pair]) -> Result<Command, Unread>
+    ensures { Answers result (coverage_of (λ name. values_of name pairs.now)) }
+{
+    let isa = only_value(alloc, pairs, "--isa")?;
+    let groups = group_files(alloc, pairs)?;
+    let logs = log_files(alloc, pairs)?;
+    let windows = given_windows(alloc, pairs)?;
+    let families = read_families(alloc, pairs)?;
+    let progress = read_progress(alloc, pairs)?;
     Ok(Command::Coverage(CoverageArguments {
-        isa: only_value(alloc, pairs, "--isa")?,
-        groups: group_files(alloc, pairs)?,
-        logs: log_files(alloc, pairs)?,
-        windows: given_windows(alloc, pairs)?,
-        families: read_families(alloc, pairs)?,
-        progress: read_progress(alloc, pairs)?,
+        isa,
+        groups,
+        logs,
+        windows,
+        families,
+        progress,
     }))
 }
 
@@ -155,7 +186,17 @@ pub fn read_propagate(alloc: Global, words: &[String]) -> Result<Command, Unread
         "--progress",
     ];
     let options = read_options(alloc, words, &names)?;
-    let pairs = options.as_slice();
+    propagate_asked(alloc, options.as_slice())
+}
+
+/// Reads the options of `propagate`.
+///
+/// # Errors
+///
+/// [`Unread`].
+fn propagate_asked(alloc: Global, pairs: &[Pair]) -> Result<Command, Unread>
+    ensures { Answers result (propagate_of (λ name. values_of name pairs.now)) }
+{
     let isa = only_value(alloc, pairs, "--isa")?;
     let groups = group_files(alloc, pairs)?;
     let names = log_files(alloc, pairs)?;

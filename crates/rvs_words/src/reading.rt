@@ -4,7 +4,8 @@ ghost use Rattle.rvs_base.specs.Asked.{size_of};
 ghost use Rattle.rvs_words.specs.Words.{texts, values_of};
 ghost use Rattle.rvs_words.specs.Commands.{compare_of, validate_options, validate_of};
 ghost use Rattle.rvs_words.specs.Commands.{reference_options, reference_of, demo_of, with_options};
-ghost use Rattle.rvs_words.specs.Commands.{asked_by, command_of, number_of, within_steps, steps_of};
+ghost use Rattle.rvs_words.specs.Commands.{asked_by, command_of, named, number_of};
+ghost use Rattle.rvs_words.specs.Commands.{within_steps, steps_of};
 ghost use Rattle.rvs_words.specs.Reading.{Answers};
 
 use crate::command::{Command, CompareArguments, ReferenceArguments, ValidateArguments};
@@ -38,21 +39,28 @@ pub fn read_command(alloc: Global, words: &[String]) -> Result<Command, NoMemory
 fn read_named(alloc: Global, words: &[String]) -> Result<Command, Unread>
     ensures { Answers result (asked_by (texts words.now)) }
 {
-    let [program, name, rest @ ..] = words else {
-        return Err(Unread::NoCommand);
-    };
-    match name.as_str() {
-        "compare" => read_compare(alloc, rest),
-        "validate" => read_validate(alloc, rest),
-        "normalize" => read_normalize(alloc, rest),
-        "generate" => read_generate(alloc, rest),
-        "reference" => read_reference(alloc, rest),
-        "coverage" => read_coverage(alloc, rest),
-        "propagate" => read_propagate(alloc, rest),
-        "run" => read_run(alloc, program.as_str(), rest),
-        "report" => read_report(alloc, rest),
-        "select" => read_select(alloc, rest),
-        "demo" => read_demo(rest),
+    match words {
+        [program, name, rest @ ..] => read_by(alloc, program.as_str(), name.as_str(), rest),
+        _ => Err(Unread::NoCommand),
+    }
+}
+
+/// Reads the words behind a name.
+fn read_by(alloc: Global, program: &str, name: &str, words: &[String]) -> Result<Command, Unread>
+    ensures { Answers result (named program.now name.now (texts words.now)) }
+{
+    match name {
+        "compare" => read_compare(alloc, words),
+        "validate" => read_validate(alloc, words),
+        "normalize" => read_normalize(alloc, words),
+        "generate" => read_generate(alloc, words),
+        "reference" => read_reference(alloc, words),
+        "coverage" => read_coverage(alloc, words),
+        "propagate" => read_propagate(alloc, words),
+        "run" => read_run(alloc, program, words),
+        "report" => read_report(alloc, words),
+        "select" => read_select(alloc, words),
+        "demo" => read_demo(words),
         _ => Err(Unread::NoCommand),
     }
 }

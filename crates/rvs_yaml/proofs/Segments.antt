@@ -1,18 +1,24 @@
 -- The anchors that are complete, as those of one open block after another.
 use Rattle.std.proofs.Common.{◌≡◌, ◌≤◌, ◌+◌, ◌-◌, ℕ, false, List, [], ◌∷◌, ◌++◌, map, reverse}
 use Rattle.std.proofs.Common.{length, take, drop, Some, Ok, refl, sym, ap, subst, ◌∙◌, arith}
-use Rattle.std.proofs.Common.{get_or}
+use Rattle.std.proofs.Common.{zero, suc, get_or, length-append}
 use Rattle.std.proofs.lemmas.List.{reverse-append, map-append, take-append-drop, length-take-le}
 use Rattle.std.proofs.lemmas.List.{take-take, take_all, drop-append-le, drop_all, take_more}
-use Rattle.std.specs.Prelude.{slice_get}
-use Rattle.rvs_yaml.proofs.Sketching.{some-last}
+use Rattle.std.specs.Prelude.{slice_get, Option, None, Result, IfSome, IfOk, Bool, true, not}
+use Rattle.rvs_yaml.proofs.Sketching.{some-last, none-last}
 use Rattle.std.proofs.lemmas.Option.{slice_get-get_or}
 use Rattle.rvs_tree.specs.Value.{Value}
+use Rattle.rvs_tree.specs.ValueView.{value_view}
+use Rattle.rvs_tree.specs.declared.counted.Value as made
+use Rattle.rvs_fault.specs.declared.faults.Fault.{Fault}
+use Rattle.rvs_yaml.specs.Gives.{Gives}
+use Rattle.rvs_yaml.specs.declared.anchor_list.AnchorList.{AnchorList}
+use Rattle.rvs_yaml_text.specs.declared.kind.YamlKind.{YamlKind}
 use Rattle.rvs_yaml_text.specs.Word.{Name, Word, Head, Content, Bracket, Token, is_below}
 use Rattle.rvs_yaml_text.specs.WordView.{head_view}
 use Rattle.rvs_yaml.specs.Anchors as anchors_spec
 use Rattle.rvs_yaml.specs.Checks.{◌>>=◌}
-use Rattle.rvs_yaml.specs.Block.{found, content_value}
+use Rattle.rvs_yaml.specs.Block.{Found, found, content_value}
 use Rattle.rvs_yaml.specs.Stack as spec
 use Rattle.rvs_yaml.specs.Stack.{Done, known_of, noted, closed_as}
 use Rattle.rvs_yaml.specs.Stack.{settled, step}
@@ -188,6 +194,93 @@ pub closed-over : (v u : Value) (b : code.Block) (o : Open) (rest : List Open)
     (rest ++ o ∷ [])) w)
 closed-over v u b o rest all after w above risen is named =
     grind (arith, befores-push, next-over, settled-closing, anchored-push)
+
+-- whether the innermost block, if there is one, closes at this word
+abbrev pub Closing : Option Open → Word → Bool → Type 0
+Closing m w b = IfSome m (λ o. b ≡ not (is_below (head_view o.head) w))
+
+closing-true : (b : Bool) → true ≡ not b → b ≡ false
+closing-true b h = grind arith
+
+closing-false : (b : Bool) → false ≡ not b → b ≡ true
+closing-false b h = grind arith
+
+pushed-last : (bs : List Open) (o : Open) (n : ℕ) → n ≡ length bs
+    → slice_get (bs ++ o ∷ []) n ≡ Some o
+pushed-last [] o zero e = refl
+pushed-last [] o (suc n) e = absurd (omega arith)
+pushed-last (b ∷ bs) o zero e = absurd (omega arith)
+pushed-last (b ∷ bs) o (suc n) e = pushed-last bs o n (omega arith)
+
+-- the block on top closes
+pub closes-top : (bs rest : List Open) (o : Open) (w : Word) → bs ≡ rest ++ o ∷ []
+    → Closing (slice_get bs (length bs - 1)) w true → is_below (head_view o.head) w ≡ false
+closes-top bs rest o w is h =
+    let top : slice_get bs (length bs - 1) ≡ Some o =
+    subst (λ xs. slice_get xs (length xs - 1) ≡ Some o) (sym is)
+    (pushed-last rest o _ (omega (arith, length-append rest (o ∷ [])))) in
+    closing-true (is_below (head_view o.head) w) (subst (λ m. Closing m w true) top h)
+
+-- and where there is none, none closes
+pub none-closes : (bs : List Open) (w : Word) → length bs ≡ 0
+    → Closing (slice_get bs (length bs - 1)) w false
+none-closes [] w h = tt
+none-closes (b ∷ bs) w h = absurd (omega (arith, h))
+
+-- the block on top closes, and names what it stands for, as the code has it
+pub closes-over : (v : Value) (b : code.Block) (o : Open) (bs rest : List Open) (all : List Anchor)
+    (r : Result (made.Value × AnchorList) (Fault YamlKind)) (u : made.Value) (kept : AnchorList)
+    (around : code.Block) (w : Word) → Closing (slice_get bs (length bs - 1)) w true
+    → bs ≡ rest ++ o ∷ [] → Rises (length all) (b.before ∷ befores bs)
+    → r ≡ Ok (u, kept) → around ≡ o.block
+    → Gives (λ p. value_view p.0) r (closed_value (done_view b.done) b.line v)
+    → IfOk r (λ p. Names (head_view o.head).anchor (value_view p.0) b.before all p.1.anchors.items)
+    → Rises (length kept.anchors.items) (around.before ∷ befores rest)
+    × (settled (found (value_view u) []) (bare (block_at kept.anchors.items around))
+    (anchored (take around.before kept.anchors.items) rest) w
+    ≡ settled (found v []) (bare (block_at all b)) (anchored (take b.before all) bs) w)
+closes-over v b o bs rest all r u kept around w h is risen made here given named =
+    let after = kept.anchors.items in
+    let all-below = take b.before all in
+    let n = value_view u in
+    let P : List Open → Type 0 = λ xs. Rises (length after) (o.block.before ∷ befores rest)
+    × (settled (found n []) (bare (block_at after o.block))
+    (anchored (take o.block.before after) rest) w
+    ≡ settled (found v []) (bare (block_at all b)) (anchored all-below xs) w) in
+    let Q : code.Block → Type 0 = λ x. Rises (length after) (x.before ∷ befores rest)
+    × (settled (found n []) (bare (block_at after x)) (anchored (take x.before after) rest) w
+    ≡ settled (found v []) (bare (block_at all b)) (anchored all-below bs) w) in
+    subst Q (sym here) (subst P (sym is) (closed-over v n b o rest all after w
+    (closes-top bs rest o w is h)
+    (subst (λ xs. Rises (length all) (b.before ∷ befores xs)) is risen)
+    (subst (λ x. Gives (λ p. value_view p.0) x (closed_value (done_view b.done) b.line v)) made
+    given)
+    (subst (λ x. IfOk x (λ p. Names (head_view o.head).anchor (value_view p.0) b.before all
+    p.1.anchors.items)) made named)))
+
+stays-over : (g : Found Value) (b o : spec.Open) (bs : List spec.Open) (w : Word)
+    → is_below o.head w ≡ true → spec.advanced b g (o ∷ bs) w ≡ settled g b (o ∷ bs) w
+stays-over g b o bs w e = rw e refl
+
+stays-by : (m : Option Open) (g : Found Value) (b : spec.Open) (all : List Anchor)
+    (bs : List Open) (w : Word) → m ≡ slice_get bs (length bs - 1) → Closing m w false
+    → spec.advanced b g (anchored all bs) w ≡ settled g b (anchored all bs) w
+stays-by None g b all bs w e h =
+    let P : List Open → Type 0 =
+    λ xs. spec.advanced b g (anchored all xs) w ≡ settled g b (anchored all xs) w in
+    subst P (sym (none-last bs e)) refl
+stays-by (Some o) g b all bs w e h =
+    let rest = take (length bs - 1) bs in
+    let P : List spec.Open → Type 0 = λ xs. spec.advanced b g xs w ≡ settled g b xs w in
+    subst P (sym (ap (anchored all) (last-whole bs o e) ∙ anchored-push all rest o))
+    (stays-over g b (open_at all o) (anchored (take o.block.before all) rest) w
+    (closing-false (is_below (head_view o.head) w) h))
+
+-- where the block on top stays, the word goes on with the one above
+pub settled-stays : (g : Found Value) (b : spec.Open) (all : List Anchor) (bs : List Open)
+    (w : Word) → Closing (slice_get bs (length bs - 1)) w false
+    → spec.advanced b g (anchored all bs) w ≡ settled g b (anchored all bs) w
+settled-stays g b all bs w h = stays-by (slice_get bs (length bs - 1)) g b all bs w refl h
 
 -- THE FRONT NEEDS NO ANCHORS
 map-reverse : (bs : List Open) → reverse (map open_view bs) ≡ map open_view (reverse bs)

@@ -20,6 +20,7 @@ use crate::flow_refusals::{colon_scalar_refused, cut_key_refused, is_new, refuse
 use crate::known::Known;
 use crate::reading::{FlowState, Level, Pending, Reading};
 use crate::taking::{boxed, push};
+use rvs_base::{beside, release};
 use rvs_fault::Fault;
 use rvs_tree::{
     EntryList, Value, ValueList, Written, list_value, map_value, scalar_value, thin_list_value,
@@ -51,7 +52,10 @@ fn with_value(alloc: Global, place: FlowState, value: Value) -> Result<FlowState
             let Pending { list, key } = Box::into_inner(pending);
             Ok(FlowState::BehindEntry(list.with(alloc, entry_of(key, value))?))
         }
-        _ => Err(Fault::Refused(YamlKind::BadFlow)),
+        _ => {
+            release(value);
+            refused(place, Fault::Refused(YamlKind::BadFlow))
+        },
     }
 }
 
@@ -81,8 +85,14 @@ fn with_key(alloc: Global, place: FlowState, key: Key) -> Result<FlowState, Faul
                 Err(Fault::Refused(YamlKind::DuplicateKey))
             }
         }
-        FlowState::Member(_) | FlowState::EntryValue(_) => Err(Fault::Refused(YamlKind::BadScalar)),
-        _ => Err(Fault::Refused(YamlKind::BadFlow)),
+        FlowState::Member(_) | FlowState::EntryValue(_) => {
+            release(key);
+            refused(place, Fault::Refused(YamlKind::BadScalar))
+        },
+        _ => {
+            release(key);
+            refused(place, Fault::Refused(YamlKind::BadFlow))
+        },
     }
 }
 
@@ -140,8 +150,8 @@ fn with_scalar(
     ensures refused { FailsWith result
         (spec.with_value (place_view place) (value_spec.scalar_value (key_view key).name line)) }
 {
-    may_take(&place)?;
-    let value = scalar_value(alloc, key.name, line)?;
+    let ((), (place, key)) = beside(may_take(&place), (place, key))?;
+    let (value, place) = beside(scalar_value(alloc, key.name, line), place)?;
     with_value(alloc, place, value)
 }
 
@@ -485,7 +495,13 @@ pub(crate) fn flow_end(reading: Reading) -> Result<Value, Fault<YamlKind>>
 {
     match reading {
         Reading::Whole(value, true) => Ok(value),
-        Reading::Whole(_, false) => Err(Fault::Refused(YamlKind::BadMerge)),
-        Reading::Inside(_, _, _) => Err(Fault::Refused(YamlKind::BadFlow)),
+        Reading::Whole(_, false) => {
+            release(reading);
+            Err(Fault::Refused(YamlKind::BadMerge))
+        },
+        Reading::Inside(_, _, _) => {
+            release(reading);
+            Err(Fault::Refused(YamlKind::BadFlow))
+        },
     }
 }

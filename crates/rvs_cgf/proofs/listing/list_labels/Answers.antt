@@ -9,7 +9,8 @@ pub loop-i-preserved : goal.loop-i-preserved
 loop-i-preserved c =
     each-more (label_step c.args.isa.now c.args.families) (view c.args.root.now) c.loop-i.i
     c.key.result.now
-    (view c.item.result.now) (listed_view c.loop-i.listed) (listed_view c.in-Ok.next) c.requires
+    (view c.item.result.now) (listed_view c.loop-i.listed)
+    (listed_view c.label_step.new.listed) c.requires
     c.key.ensures c.item.ensures c.in-Ok.ensures
     ∙ c.loop-i.invariant
 

@@ -36,7 +36,7 @@ returns-clause-met g c = λ out.
     let logs = c.args.logs.now in
     let groups = c.args.groups.now in
     let old = world (g.H.Host.state c.args.host.now) out in
-    let new = world (g.H.Host.state c.take_onto.new.host) out in
+    let new = world (g.H.Host.state c.take_onto-covered.new.host) out in
     let kept : c.from-kept.result ≡ windows =
     c.from-kept.ensures ∙ c.in_ok-to_vec.ensures.items_if_clones_equal (λ x y e. e) in
     let begun : c.in_ok-counter.counter ≡ state_of groups windows [] 0 =
@@ -45,12 +45,12 @@ returns-clause-met g c = λ out.
     ap taken_more begun ∙ λ i. counts_more (counted_windows groups windows [] 0 i)
     (groups_view (counted_labels groups windows [] 0 i)) in
     subst (λ none. Meets (takes_logs file_name (counts_more windows (groups_view groups)) none logs)
-    old new (as_planned c.take_onto.result)) c.in_ok-none.ensures.counted
+    old new (as_planned c.take_onto-covered.result)) c.in_ok-none.ensures.counted
     (subst (λ more. Meets (takes_logs file_name more c.in_ok-none.none logs) old new
-    (as_planned c.take_onto.result)) more (c.take_onto.ensures.met out))
+    (as_planned c.take_onto-covered.result)) more (c.take_onto-covered.ensures.met out))
 
 pub returns-clause-long : goal.returns-clause-long
-returns-clause-long g c = c.take_onto.ensures.fits _ c.in_ok-none.ensures.long
+returns-clause-long g c = c.take_onto-covered.ensures.fits _ c.in_ok-none.ensures.long
 
 pub returns-in_err-none-clause-told : goal.returns-in_err-none-clause-told
 returns-in_err-none-clause-told g c =
@@ -70,4 +70,4 @@ returns-in_err-counter-clause-told g c =
     rw (p.1, p.2) (told-nothing _ _ _ _)
 
 pub returns-clause-told : goal.returns-clause-told
-returns-clause-told g c = c.take_onto.ensures.told
+returns-clause-told g c = c.take_onto-covered.ensures.told

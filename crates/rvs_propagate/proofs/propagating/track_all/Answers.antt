@@ -27,18 +27,18 @@ returns-clause-met g c = λ out.
     let asked = c.args.asked.now in
     let groups = c.args.groups.now in
     let old = world (g.H.Host.state c.args.host.now) out in
-    let new = world (g.H.Host.state c.take_onto.new.host) out in
+    let new = world (g.H.Host.state c.take_onto-traced.new.host) out in
     let more : more_by c.in_ok-tracker.tracker ≡ tracks_more (groups_view groups) =
     ap more_by c.in_ok-tracker.ensures
     ∙ λ i. tracks_more (groups_view (all_labels groups 0 0 [] 0 i)) in
-    let met = rw c.as_slice-logs.ensures at (c.take_onto.ensures.met out) in
+    let met = rw c.as_slice-logs.ensures at (c.take_onto-traced.ensures.met out) in
     subst (λ none. Meets (takes_logs file_name (tracks_more (groups_view groups)) none asked.logs)
-    old new (as_planned c.take_onto.result)) c.in_ok-none.ensures.tracked
+    old new (as_planned c.take_onto-traced.result)) c.in_ok-none.ensures.tracked
     (subst (λ more. Meets (takes_logs file_name more c.in_ok-none.none asked.logs) old new
-    (as_planned c.take_onto.result)) more met)
+    (as_planned c.take_onto-traced.result)) more met)
 
 pub returns-clause-long : goal.returns-clause-long
-returns-clause-long g c = c.take_onto.ensures.fits _ c.in_ok-none.ensures.long
+returns-clause-long g c = c.take_onto-traced.ensures.fits _ c.in_ok-none.ensures.long
 
 pub returns-in_err-none-clause-told : goal.returns-in_err-none-clause-told
 returns-in_err-none-clause-told g c =
@@ -52,4 +52,4 @@ returns-in_err-tracker-clause-told g c =
     rw (p.1, p.2) (told-nothing _ _ _ _)
 
 pub returns-clause-told : goal.returns-clause-told
-returns-clause-told g c = rw c.as_slice-logs.ensures at c.take_onto.ensures.told
+returns-clause-told g c = rw c.as_slice-logs.ensures at c.take_onto-traced.ensures.told

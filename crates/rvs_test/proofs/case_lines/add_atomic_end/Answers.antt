@@ -1,4 +1,4 @@
-use Rattle.std.proofs.Common.{[], ◌∷◌, ◌++◌, ◌∙◌, ap}
+use Rattle.std.proofs.Common.{◌∷◌, ◌++◌, ◌∙◌, ap}
 use Rattle.std.specs.Prelude.{unwrap_or}
 use Rattle.rvs_solver.specs.Choices.{ChoiceValue, fields_of}
 use Rattle.rvs_test_text.specs.declared.statement.Name.TheVariants.{Case, Scratch}
@@ -13,12 +13,10 @@ unfolding atomic_end
 returns c =
     let old = c.args.list.now.items in
     let symbol = Label (Case c.args.k) in
-    c.in_ok-extend_from_slice-2.ensures.items
+    c.in_ok-extend_from_slice-3.ensures.items
     ∙ ap (λ l. l ++ c.save.result)
-    (c.in_ok-extend_from_slice.ensures.items
-    ∙ ap (λ l. l ++ c.get_word.result)
-    (c.in_ok-push-2.ensures.items
-    ∙ ap (λ l. l ++ Plain c.insn.result ∷ []) c.in_ok-push.ensures.items))
+    (c.in_ok-extend_from_slice-2.ensures.items
+    ∙ ap (λ l. l ++ c.get_word.result) c.in_ok-extend_from_slice.ensures.items)
     ∙ end_grows old symbol (Plain c.insn.result) c.get_word.result c.save.result
     ∙ ap (λ i. old ++ (symbol ∷ Plain i ∷ (c.get_word.result ++ c.save.result))) c.insn.ensures
     ∙ ap (λ g. old ++ (symbol ∷ Plain (fields_of c.args.choice.now) ∷ (g ++ c.save.result)))

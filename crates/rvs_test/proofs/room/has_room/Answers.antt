@@ -1,4 +1,4 @@
-use Rattle.std.proofs.Common.{◌≤◌, ◌∙◌, List, length, true, sym, ap, subst}
+use Rattle.std.proofs.Common.{◌≤◌, ◌∙◌, List, length, sym, ap, subst}
 use Rattle.rvs_points.specs.PointView.{label_view}
 use Rattle.rvs_choice.specs.declared.solved.Solved.{Solved}
 use Rattle.rvs_test_text.specs.Claim.{AreReady}
@@ -27,5 +27,5 @@ code_bytes-requires-clause-ready g c =
     (sym (c.as_slice-cases.ensures ∙ c.in_ok-found.ensures.cases))
     (cases_ready c.args.spec.now c.hold.ensures.room (label_view c.args.label.now) c.requires)
 
-pub hold-requires-2 : goal.hold-requires-2
-hold-requires-2 g c = record { few = code_bytes-requires-clause-few g c.before }
+pub hold-has-requires : goal.hold-has-requires
+hold-has-requires g c = record { few = code_bytes-requires-clause-few g c.before }

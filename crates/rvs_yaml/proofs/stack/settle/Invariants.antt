@@ -8,8 +8,8 @@ use Rattle.rvs_tree.specs.ValueView.{value_view}
 use Rattle.rvs_yaml_text.specs.WordView.{word_view}
 use Rattle.rvs_yaml.proofs.stack.settle.Given as goal
 
-abbrev pub invariant-loop-outer : goal.invariant-loop-outer
-invariant-loop-outer l = record {
+abbrev pub invariant-loop-blocks : goal.invariant-loop-blocks
+invariant-loop-blocks l = record {
   rising : Rises (length l.anchors.anchors.items) (l.block.before ∷ befores l.blocks.items);
   same : settled (found (value_view l.value) []) (bare (block_at l.anchors.anchors.items l.block))
       (anchored (take l.block.before l.anchors.anchors.items) l.blocks.items) (word_view l.word)
@@ -19,5 +19,5 @@ invariant-loop-outer l = record {
       l.initial.blocks.items) (word_view l.word);
 }
 
-abbrev pub decreases-loop-outer : goal.decreases-loop-outer
-decreases-loop-outer l = vec_len l.blocks
+abbrev pub decreases-loop-blocks : goal.decreases-loop-blocks
+decreases-loop-blocks l = vec_len l.blocks

@@ -1,9 +1,0 @@
-use Rattle.std.proofs.Common.{◌≡◌, length}
-use Rattle.rvs_index.specs.Marks.{HasFirstHeads}
-use Rattle.rvs_index.proofs.mark.heads.Given as goal
-
-abbrev pub invariant-loop-number : goal.invariant-loop-number
-invariant-loop-number l = record {
-  each : HasFirstHeads l.lists l.heads;
-  count : length l.heads ≡ l.number;
-}
