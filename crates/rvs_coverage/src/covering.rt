@@ -17,7 +17,7 @@ use crate::unfinished::{Unfinished, as_planned, unlost};
 use rvs_base::{Host, Items, MemorySink, NoMemory, Sink, Text, Window, release};
 use rvs_cgf::Groups;
 use rvs_count::{Counter, Tally, new_counter, report_text, zeros};
-use rvs_inputs::{print_text, read_inputs};
+use rvs_inputs::{print_text, read_inputs, release_inputs};
 use rvs_plan::{Finish, Stop};
 use rvs_words::CoverageArguments;
 use std::alloc::Global;
@@ -69,7 +69,9 @@ fn read_report<H: Host, E: Sink>(
         (H.state host.old) (E.state err.old) (E.state err.new) result }
 {
     let inputs = read_inputs(alloc, host, &asked.isa, asked.families, &asked.groups)?;
-    report_logs(alloc, host, err, &inputs.groups, asked)
+    let report = report_logs(alloc, host, err, &inputs.groups, asked);
+    release_inputs(inputs);
+    report
 }
 
 /// Counts in all logs, and makes the report.

@@ -20,7 +20,7 @@ use crate::test_files::test_path;
 use rvs_base::{Host, Sink, Text};
 use rvs_cgf::Label;
 use rvs_count::push_unselected;
-use rvs_inputs::{Inputs, print_text};
+use rvs_inputs::{Inputs, print_text, release_inputs};
 use rvs_insn::IsaSpec;
 use rvs_plan::{Finish, Stop, write_output};
 use rvs_words::GenerateArguments;
@@ -51,7 +51,9 @@ pub fn generate_tests<H: Host, O: Sink>(
         &asked.groups,
         &asked.part,
     )?;
-    let text = write_tests(alloc, host, &asked.work, &inputs)?;
+    let written = write_tests(alloc, host, &asked.work, &inputs);
+    release_inputs(inputs);
+    let text = written?;
     print_text(&text, out)
 }
 

@@ -20,7 +20,7 @@ use rvs_base::{Host, Items, NoMemory, Text};
 use rvs_cgf::{CgfKind, CgfRefusal, Label};
 use rvs_expr::Steps;
 use rvs_free::Free;
-use rvs_inputs::{GROUPS_NAME, Inputs, kept_labels, read_inputs};
+use rvs_inputs::{GROUPS_NAME, Inputs, kept_labels, read_inputs, release_inputs};
 use rvs_insn::IsaSpec;
 use rvs_parts::Part;
 use rvs_plan::{Stop, input_text};
@@ -60,9 +60,18 @@ fn with_room(alloc: Global, inputs: Inputs) -> Result<Inputs, Stop>
         All (λ l. IsTestableIfSelected i.isa (label_view l)) i.groups) }
 {
     memory_has_room(&inputs.isa);
-    match first_lacking(alloc, &inputs.isa, inputs.groups.as_slice())? {
-        None => Ok(inputs),
-        Some(text) => Err(Stop::Refused(text)),
+    match first_lacking(alloc, &inputs.isa, inputs.groups.as_slice()) {
+        Ok(lacking) => match lacking {
+            None => Ok(inputs),
+            Some(text) => {
+                release_inputs(inputs);
+                Err(Stop::Refused(text))
+            },
+        },
+        Err(NoMemory) => {
+            release_inputs(inputs);
+            Err(Stop::NoMemory)
+        },
     }
 }
 

@@ -10,7 +10,7 @@ mod printing;
 
 pub use database_file::read_database_file;
 pub use device_file::read_device_file;
-pub use group_files::{GROUPS_NAME, Inputs, read_inputs, read_joined};
+pub use group_files::{GROUPS_NAME, Inputs, read_inputs, read_joined, release_inputs};
 pub use isa_file::read_isa;
 pub use parting::{kept_labels, read_marked};
 pub use printing::print_text;

@@ -17,7 +17,7 @@ use rvs_coverage::{
     LogTaker, Unfinished, plus_each, take_log, take_onto, total_of, under_lines, unlost,
     with_number,
 };
-use rvs_inputs::{print_text, read_inputs};
+use rvs_inputs::{print_text, read_inputs, release_inputs};
 use rvs_plan::Finish;
 use rvs_prop::{Tracker, Trail, new_tracker, propagation_text};
 use rvs_words::{PropagateArguments, SignedLog, owned};
@@ -72,7 +72,9 @@ fn read_report<H: Host, E: Sink>(
         (H.state host.old) (E.state err.old) (E.state err.new) result }
 {
     let inputs = read_inputs(alloc, host, &asked.isa, asked.families, &asked.groups)?;
-    report_logs(alloc, host, err, &inputs.groups, asked)
+    let report = report_logs(alloc, host, err, &inputs.groups, asked);
+    release_inputs(inputs);
+    report
 }
 
 /// Tracks hits in all logs, and makes the report.

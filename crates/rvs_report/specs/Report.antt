@@ -121,16 +121,20 @@ shows_labels isa work shown counts (l ∷ ls) =
     shows_label isa work (take (width l) counts) l
     >>= (λ one. shows_labels isa work (shown ++ one ∷ []) (drop (width l) counts) ls)
 
--- the ISA file, the group files, the device file and the logs are read, and then the files of the
--- tests, one test after the other
-abbrev pub finds_page : ReportArguments → Plan Page
-finds_page asked = do
-  inputs ← tested_inputs asked.isa asked.families asked.groups
+-- the device file and the logs are read, and then the files of the tests, one test after the other
+abbrev pub shows_page : ReportArguments → Inputs → Plan Page
+shows_page asked inputs = do
   device ← device_file asked.device
   covered ← takes_logs file_name (counts_more asked.windows inputs.groups)
       (uncounted inputs.groups) asked.logs
   labels ← shows_labels inputs.isa asked.work [] covered.counts inputs.groups
   gives (page_with asked inputs device covered labels)
+
+-- after the ISA file and the group files
+abbrev pub finds_page : ReportArguments → Plan Page
+finds_page asked = do
+  inputs ← tested_inputs asked.isa asked.families asked.groups
+  shows_page asked inputs
 
 abbrev pub puts_page : Page → Plan Finish
 puts_page page = do

@@ -18,7 +18,7 @@ ghost use Rattle.rvs_generate.specs.Testable.{IsTestable, IsTestableIfSelected};
 ghost use Rattle.rvs_generate.specs.Tests.{IsRunnable};
 ghost use Rattle.rvs_report.specs.Report.{end_by, instructions_in, page_with, shown_core};
 ghost use Rattle.rvs_report.specs.Report.{shows_test, shows_by, shows_label, shows_labels};
-ghost use Rattle.rvs_report.specs.Report.{finds_page, puts_page, report};
+ghost use Rattle.rvs_report.specs.Report.{finds_page, puts_page, report, shows_page};
 
 use crate::reviewing::{find_test, found_open};
 use rvs_base::{Host, Items, NoMemory, Sink, Text};
@@ -26,7 +26,7 @@ use rvs_cgf::Label;
 use rvs_coverage::{Covered, count_quietly, total_of};
 use rvs_device::Device;
 use rvs_generate::{Test, made_of, read_tested};
-use rvs_inputs::{Inputs, read_device_file};
+use rvs_inputs::{Inputs, read_device_file, release_inputs};
 use rvs_insn::{IsaSpec, isa_text};
 use rvs_isa::misa_word;
 use rvs_page::{Core, Label as ShownLabel, Page, State, Verdict, page_text, verdict_of};
@@ -80,6 +80,22 @@ fn find_page<H: Host>(alloc: Global, host: &mut H, asked: &ReportArguments) -> R
         (world (H.state host.old) out) (world (H.state host.new) out) result }
 {
     let inputs = read_tested(alloc, host, &asked.isa, asked.families, &asked.groups)?;
+    let page = show_page(alloc, host, asked, &inputs);
+    release_inputs(inputs);
+    page
+}
+
+/// The page of what was left, where the core and its groups are read.
+fn show_page<H: Host>(
+    alloc: Global,
+    host: &mut H,
+    asked: &ReportArguments,
+    inputs: &Inputs,
+) -> Result<Page, Stop>
+    requires { All (λ l. IsTestableIfSelected inputs.now.isa (label_view l)) inputs.now.groups }
+    ensures { (out : SinkState) → MeetsWith IsAnswer (shows_page asked.now (inputs_view inputs.now))
+        (world (H.state host.old) out) (world (H.state host.new) out) result }
+{
     let device = read_device_file(alloc, host, &asked.device)?;
     let windows = asked.windows.as_slice();
     let logs = asked.logs.as_slice();
@@ -87,7 +103,7 @@ fn find_page<H: Host>(alloc: Global, host: &mut H, asked: &ReportArguments) -> R
     let groups = inputs.groups.as_slice();
     let counts = covered.counts.as_slice();
     let labels = show_labels(alloc, host, &asked.work, inputs.isa, groups, counts)?;
-    Ok(page_with(alloc, asked, &inputs, &device, &covered, labels)?)
+    Ok(page_with(alloc, asked, inputs, &device, &covered, labels)?)
 }
 
 fn page_with(

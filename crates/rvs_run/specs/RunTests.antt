@@ -198,6 +198,12 @@ bench_of program work inputs =
 abbrev pub runs : List ℕ → List ℕ → RunInputs → Plan Finish
 runs program work inputs = runs_tests (bench_of program work inputs) inputs.groups.groups
 
+-- the same, where the core and the groups are read
+abbrev pub runs_over : RunArguments → Inputs → Plan Finish
+runs_over asked inputs = do
+  told ← device_file asked.device
+  runs asked.program asked.work (record { groups = inputs; device = told })
+
 -- all inputs are read and checked, and then the tests are made, run and judged
 abbrev pub run : RunArguments → Plan Finish
 run asked = do

@@ -5,16 +5,19 @@ ghost use Rattle.rvs_base.specs.Sink.{SinkState};
 ghost use Rattle.rvs_plan.specs.World.{world, IsAnswer};
 ghost use Rattle.rvs_plan.specs.Meets.{MeetsWith, Meets};
 ghost use Rattle.rvs_device.specs.DeviceView.{told};
+ghost use Rattle.rvs_cgf.specs.GroupView.{label_view};
+ghost use Rattle.rvs_inputs.specs.GroupsView.{inputs_view};
+ghost use Rattle.rvs_generate.specs.Testable.{IsTestableIfSelected};
 ghost use Rattle.rvs_generate.specs.Tests.{IsReady};
 ghost use Rattle.rvs_run.specs.RunTests.{tally_line, with_one, judges_all, verdict_of_all};
-ghost use Rattle.rvs_run.specs.RunTests.{tallies, judges_tests, run};
+ghost use Rattle.rvs_run.specs.RunTests.{tallies, judges_tests, run, runs_over};
 ghost use Rattle.rvs_run.specs.RunView.{bench_view};
 
 use crate::judging::{Bench, judge_one};
 use rvs_base::{Host, NoMemory, Sink, Text};
 use rvs_device::Device;
 use rvs_generate::{Source, gather_tests, read_labels};
-use rvs_inputs::read_device_file;
+use rvs_inputs::{Inputs, read_device_file, release_inputs};
 use rvs_insn::IsaSpec;
 use rvs_plan::{Finish, Stop, print};
 use rvs_words::{RunArguments, owned};
@@ -45,8 +48,26 @@ pub fn run_tests<H: Host, O: Sink>(
         &asked.groups,
         &asked.part,
     )?;
+    let finish = run_over(alloc, asked, host, out, &inputs);
+    release_inputs(inputs);
+    finish
+}
+
+/// The same, where the core and its groups are read.
+fn run_over<H: Host, O: Sink>(
+    alloc: Global,
+    asked: &RunArguments,
+    host: &mut H,
+    out: &mut O,
+    inputs: &Inputs,
+) -> Result<Finish, Stop>
+    requires { All (λ l. IsTestableIfSelected inputs.now.isa (label_view l)) inputs.now.groups }
+    ensures { MeetsWith IsAnswer (runs_over asked.now (inputs_view inputs.now))
+        (world (H.state host.old) (O.state out.old))
+        (world (H.state host.new) (O.state out.new)) result }
+{
     let device = read_device_file(alloc, host, &asked.device)?;
-    let gathered = gather_tests(alloc, &inputs)?;
+    let gathered = gather_tests(alloc, inputs)?;
     let bench = bench_of(alloc, &asked.program, &asked.work, device, inputs.isa)?;
     print(out, gathered.text.as_str().as_bytes())?;
     judge_tests(alloc, host, out, &bench, gathered.tests.as_slice())

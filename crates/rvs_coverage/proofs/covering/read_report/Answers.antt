@@ -24,7 +24,7 @@ returns-in_err-inputs-clause-met g c = λ out.
 
 pub returns-clause-met : goal.returns-clause-met
 returns-clause-met g c = λ out. Meets-then (next c.args.asked.now) (c.in_ok-inputs.ensures.met out)
-    (c.report_logs.ensures.met out)
+    (c.report_logs-report.ensures.met out)
 
 pub returns-in_err-inputs-clause-told : goal.returns-in_err-inputs-clause-told
 returns-in_err-inputs-clause-told g c =
@@ -39,4 +39,4 @@ returns-clause-told g c =
     told-since (still-tells plan _ (world (g.H.Host.state c.args.host.now) sink)
     (world (g.H.Host.state c.read_inputs.new.host) sink)
     (reads-none plan (reads-inputs asked.isa asked.families asked.groups))
-    (c.in_ok-inputs.ensures.met sink)) c.report_logs.ensures.told
+    (c.in_ok-inputs.ensures.met sink)) c.report_logs-report.ensures.told

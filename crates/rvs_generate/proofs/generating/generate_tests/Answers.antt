@@ -23,4 +23,4 @@ returns g c =
     let out = g.O.Sink.state c.args.out.now in
     Meets-then (generates c.args.asked.now.work) (c.in_ok-inputs.ensures.met out)
     (Meets-then print_text (c.in_ok-text.ensures out)
-    (c.print_text.ensures (g.H.Host.state c.write_tests.new.host)))
+    (c.print_text.ensures (g.H.Host.state c.write_tests-written.new.host)))

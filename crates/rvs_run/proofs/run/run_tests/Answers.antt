@@ -1,21 +1,17 @@
-use Rattle.std.proofs.Common.{◌≡◌, ◌∙◌, List, ℕ, subst, rules}
+use Rattle.std.proofs.Common.{◌≡◌, ◌∙◌, List, ℕ, subst, sym}
 use Rattle.std.proofs.lemmas.Result.{err_from_is_err_and}
 use Rattle.rvs_plan.specs.World.{world, IsAnswer}
 use Rattle.rvs_plan.specs.Plan.{Plan, gives, ◌>>=◌}
 use Rattle.rvs_plan.specs.Meets.{MeetsWith}
 use Rattle.rvs_plan.specs.declared.status.Finish.{Finish}
-use Rattle.rvs_plan.proofs.Sequence.{Meets-then, Meets-stop, Meets-gives, Meets-no_memory}
-use Rattle.rvs_plan.proofs.Sequence.{Meets-weaker}
+use Rattle.rvs_plan.proofs.Sequence.{Meets-then, Meets-stop, Meets-weaker}
 use Rattle.rvs_device.specs.DeviceFile.{Told}
-use Rattle.rvs_device.specs.DeviceView.{told}
 use Rattle.rvs_inputs.specs.GroupFiles.{Inputs}
-use Rattle.rvs_inputs.specs.GroupsView.{inputs_view}
-use Rattle.rvs_generate.specs.GenerateTexts.{listing}
 use Rattle.rvs_inputs.specs.DeviceInput.{device_file}
-use Rattle.rvs_generate.specs.Tests.{tests_of, held}
-use Rattle.rvs_run.specs.RunTests.{Bench, judges_tests, RunInputs, bench_of, runs}
-use Rattle.rvs_generate.specs.declared.sources.Source.{Source}
-use Rattle.rvs_generate.proofs.Runnable.{all-ready}
+use Rattle.rvs_inputs.proofs.Chains.{then-then, then-same}
+use Rattle.rvs_generate.specs.TestedInputs.{part_inputs}
+use Rattle.rvs_run.specs.RunTests.{RunInputs, run, runs, runs_over}
+use Rattle.rvs_words.specs.declared.command.RunArguments.{RunArguments}
 use Rattle.rvs_run.proofs.run.run_tests.Goals as goal
 
 abbrev with_device : Inputs → Told → Plan RunInputs
@@ -24,12 +20,15 @@ with_device inputs told = gives (record { groups = inputs; device = told })
 abbrev device_behind : List ℕ → Inputs → Plan RunInputs
 device_behind device inputs = device_file device >>= with_device inputs
 
-abbrev inputs_with : Inputs → Told → RunInputs
-inputs_with inputs told = record { groups = inputs; device = told }
-
--- what follows when the listing is put
-abbrev judging : Bench → Inputs → Unit {0} → Plan Finish
-judging bench inputs done = judges_tests bench (held (tests_of bench.isa inputs.groups))
+-- the core and the groups are read, and then all else
+one_behind : (asked : RunArguments) → run asked
+    ≡ (part_inputs asked.part asked.isa asked.families asked.groups >>= runs_over asked)
+one_behind asked =
+    let inputs = part_inputs asked.part asked.isa asked.families asked.groups in
+    let next = runs asked.program asked.work in
+    then-then inputs (device_behind asked.device) next
+    ∙ then-same inputs (λ i. device_behind asked.device i >>= next) (runs_over asked)
+    (λ i. then-then (device_file asked.device) (with_device i) next)
 
 pub returns-in_err-inputs : goal.returns-in_err-inputs
 returns-in_err-inputs g c =
@@ -38,93 +37,13 @@ returns-in_err-inputs g c =
     rw (p.1, p.2) (Meets-weaker (Meets-stop (runs c.args.asked.now.program c.args.asked.now.work)
     (Meets-stop (device_behind c.args.asked.now.device) (c.in_err-inputs.ensures.met out))))
 
-pub returns-in_err-device : goal.returns-in_err-device
-returns-in_err-device g c =
-    let out = g.O.Sink.state c.args.out.now in
-    let inputs = inputs_view c.in_ok-inputs.inputs in
-    let p = err_from_is_err_and c.from_residual-in_err-device.result
-    c.from_residual-in_err-device.ensures.1 in
-    rw (p.1, p.2) (Meets-weaker (Meets-stop (runs c.args.asked.now.program c.args.asked.now.work)
-    (Meets-then (device_behind c.args.asked.now.device) (c.in_ok-inputs.ensures.met out)
-    (Meets-stop (with_device inputs) (c.in_err-device.ensures out)))))
-
-pub returns-in_err-gathered : goal.returns-in_err-gathered
-returns-in_err-gathered g c =
-    let out = g.O.Sink.state c.args.out.now in
-    let inputs = inputs_view c.in_ok-inputs.inputs in
-    let device = told c.in_ok-device.device in
-    let w = world (g.H.Host.state c.read_device_file.new.host) out in
-    let next = runs c.args.asked.now.program c.args.asked.now.work in
-    let p = err_from_is_err_and c.from_residual-in_err-gathered.result
-    c.from_residual-in_err-gathered.ensures.1 in
-    rw (p.1, p.2) (Meets-weaker (Meets-then next (Meets-then (device_behind c.args.asked.now.device)
-    (c.in_ok-inputs.ensures.met out) (Meets-then (with_device inputs)
-    (c.in_ok-device.ensures out) (Meets-gives (inputs_with inputs device) w))) (Meets-no_memory
-    (next (inputs_with inputs device)) w)))
-
-pub returns-in_err-bench : goal.returns-in_err-bench
-returns-in_err-bench g c =
-    let out = g.O.Sink.state c.args.out.now in
-    let inputs = inputs_view c.in_ok-inputs.inputs in
-    let device = told c.in_ok-device.device in
-    let w = world (g.H.Host.state c.read_device_file.new.host) out in
-    let next = runs c.args.asked.now.program c.args.asked.now.work in
-    let p = err_from_is_err_and c.from_residual-in_err-bench.result
-    c.from_residual-in_err-bench.ensures.1 in
-    rw (p.1, p.2) (Meets-weaker (Meets-then next (Meets-then (device_behind c.args.asked.now.device)
-    (c.in_ok-inputs.ensures.met out) (Meets-then (with_device inputs)
-    (c.in_ok-device.ensures out) (Meets-gives (inputs_with inputs device) w))) (Meets-no_memory
-    (next (inputs_with inputs device)) w)))
-
-pub returns-in_err-print : goal.returns-in_err-print
-returns-in_err-print g c =
-    let out = g.O.Sink.state c.args.out.now in
-    let inputs = inputs_view c.in_ok-inputs.inputs in
-    let device = told c.in_ok-device.device in
-    let host = g.H.Host.state c.read_device_file.new.host in
-    let w = world host out in
-    let next = runs c.args.asked.now.program c.args.asked.now.work in
-    let bench = bench_of c.args.asked.now.program c.args.asked.now.work
-    (inputs_with inputs device) in
-    let line : c.as_bytes.result.now ≡ listing inputs.isa inputs.groups =
-    c.as_bytes.ensures.value ∙ c.as_str.ensures ∙ c.in_ok-gathered.ensures.text in
-    let p = err_from_is_err_and c.from_residual-in_err-print.result
-    c.from_residual-in_err-print.ensures.1 in
-    rw (p.1, p.2) (Meets-weaker (Meets-then next
-    (Meets-then (device_behind c.args.asked.now.device) (c.in_ok-inputs.ensures.met out)
-    (Meets-then (with_device inputs) (c.in_ok-device.ensures out)
-    (Meets-gives (inputs_with inputs device) w)))
-    (Meets-stop (judging bench inputs) (rw line at (c.in_err-print.ensures host)))))
-
-pub judge_tests-requires : goal.judge_tests-requires
-judge_tests-requires g c =
-    let inputs = c.in_ok-inputs.inputs in
-    let ready = all-ready inputs.isa inputs.groups c.in_ok-inputs.ensures.testable in
-    search rules
-
 pub returns : goal.returns
 returns g c =
+    let asked = c.args.asked.now in
     let out = g.O.Sink.state c.args.out.now in
-    let inputs = inputs_view c.in_ok-inputs.inputs in
-    let device = told c.in_ok-device.device in
-    let host = g.H.Host.state c.read_device_file.new.host in
-    let w = world host out in
-    let next = runs c.args.asked.now.program c.args.asked.now.work in
-    let bench = bench_of c.args.asked.now.program c.args.asked.now.work
-    (inputs_with inputs device) in
-    let old = world host (g.O.Sink.state c.print.new.out) in
-    let new =
-    world (g.H.Host.state c.judge_tests.new.host) (g.O.Sink.state c.judge_tests.new.out) in
-    let line : c.as_bytes.result.now ≡ listing inputs.isa inputs.groups =
-    c.as_bytes.ensures.value ∙ c.as_str.ensures ∙ c.in_ok-gathered.ensures.text in
-    let tests : c.as_slice.result.now ≡ held (tests_of inputs.isa inputs.groups) =
-    c.as_slice.ensures ∙ c.in_ok-gathered.ensures.tests in
-    let one = subst (λ (b : Bench). MeetsWith IsAnswer (judges_tests b c.as_slice.result.now) old
-    new c.judge_tests.result) c.in_ok-bench.ensures c.judge_tests.ensures in
-    let judged = subst (λ (ts : List Source). MeetsWith IsAnswer (judges_tests bench ts) old new
-    c.judge_tests.result) tests one in
-    Meets-then next (Meets-weaker (Meets-then (device_behind c.args.asked.now.device)
-    (c.in_ok-inputs.ensures.met out) (Meets-then (with_device inputs)
-    (c.in_ok-device.ensures out) (Meets-gives (inputs_with inputs device) w))))
-    (Meets-then (judging bench inputs) (Meets-weaker (rw line at (c.in_ok-print.ensures host)))
-    judged)
+    let new = world (g.H.Host.state c.run_over-finish.new.host)
+    (g.O.Sink.state c.run_over-finish.new.out) in
+    subst (λ (p : Plan Finish). MeetsWith IsAnswer p (world (g.H.Host.state c.args.host.now) out)
+    new c.run_over-finish.result) (sym (one_behind asked))
+    (Meets-then (runs_over asked) (Meets-weaker (c.in_ok-inputs.ensures.met out))
+    c.run_over-finish.ensures)
