@@ -1,3 +1,4 @@
+pub mod Found
 pub mod Cuts
 pub mod Symbols
 pub mod Ready

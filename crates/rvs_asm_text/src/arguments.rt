@@ -1,5 +1,5 @@
 // Operands.
-ghost use Rattle.std.specs.Prelude.{◌≡◌, ◌≤◌, ◌+◌, ◌∷◌, [], Some, None, length, count_by, ◌==◌};
+ghost use Rattle.std.specs.Prelude.{◌≡◌, ◌+◌, ◌∷◌, [], Some, None, length, count_by, ◌==◌};
 ghost use Rattle.std.specs.Prelude.{MatchOption};
 ghost use Rattle.std.specs.Option.{option_copied};
 ghost use Rattle.rvs_asm_text.specs.Text.{operands};
@@ -101,20 +101,17 @@ impl<'t> Operands<'t> {
     }
 }
 
-/// How many commas a text has.
-fn commas(text: &[u8]) -> usize
-    ensures count { result ≡ count_by (λ c. c == 44) text.now }
-    ensures few { result ≤ length text.now }
-{
-    text.iter().filter(|c| **c == b',').count()
-}
-
+/// One more than the commas that a text has.
 fn one_more_than_commas(text: &[u8]) -> usize
     ensures { result ≡ count_by (λ c. c == 44) text.now + 1 }
 {
-    let commas = commas(text);
-    let _length = text.len();
-    commas + 1
+    let mut count = 1;
+    for c in text {
+        if *c == b',' {
+            count += 1;
+        }
+    }
+    count
 }
 
 /// An operand with brackets: what stands before the first opening one, from there to the first

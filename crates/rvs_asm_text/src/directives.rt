@@ -73,10 +73,12 @@ fn directive_text(directive: Directive) -> &'static str
 pub fn read_directive(word: &[u8]) -> Option<Directive>
     ensures { result ≡ directive_of word.now }
 {
-    DIRECTIVES
-        .iter()
-        .copied()
-        .find(|directive| directive_text(*directive).as_bytes() == word)
+    for directive in &DIRECTIVES {
+        if directive_text(*directive).as_bytes() == word {
+            return Some(*directive);
+        }
+    }
+    None
 }
 
 /// Whether a number of so many bytes, signed or unsigned, can be this one.
@@ -175,7 +177,12 @@ fn read_plain<'t>(body: Body<'t>, mut operands: Operands<'_>) -> Result<Body<'t>
 fn has_blank(text: &[u8]) -> bool
     ensures { result ≡ list_any is_blank text.now }
 {
-    text.iter().any(|c| is_blank_byte(*c))
+    for c in text {
+        if is_blank_byte(*c) {
+            return true;
+        }
+    }
+    false
 }
 
 /// A directive without effect, with one word.

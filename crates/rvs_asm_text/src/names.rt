@@ -60,7 +60,12 @@ fn may_continue(c: u8) -> bool
 fn all_continue(text: &[u8]) -> bool
     ensures { result ≡ list_all continues_symbol text.now }
 {
-    text.iter().all(|c| may_continue(*c))
+    for c in text {
+        if !may_continue(*c) {
+            return false;
+        }
+    }
+    true
 }
 
 /// Whether a text is a symbol's name.

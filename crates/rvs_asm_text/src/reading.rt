@@ -20,7 +20,12 @@ use rvs_base::cut;
 fn all_printable(text: &[u8]) -> bool
     ensures { result ≡ list_all is_text_byte text.now }
 {
-    text.iter().all(|c| *c == b'\t' || (*c >= 32 && *c <= 126))
+    for c in text {
+        if *c != b'\t' && (*c < 32 || *c > 126) {
+            return false;
+        }
+    }
+    true
 }
 
 /// Whether an operand is empty.

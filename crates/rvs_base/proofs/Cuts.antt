@@ -1,7 +1,10 @@
 -- Texts cut at a byte.
 use Rattle.std.proofs.Common.{◌≡◌, ◌≢◌, ℕ, suc, ◌-◌, ◌<◌, ◌≤◌, cond, List, []}
 use Rattle.std.proofs.Common.{◌∷◌, ◌++◌, Option, Some, None, refl, sym, ap, ◌∙◌, length, take}
-use Rattle.std.proofs.Common.{get_or, arith}
+use Rattle.std.proofs.Common.{◌+◌, get_or, drop, false, arith}
+use Rattle.std.proofs.lemmas.Bool.{eq-eqb}
+use Rattle.std.proofs.lemmas.Bool.Decides.{nat_tests}
+use Rattle.std.proofs.lemmas.List.{at_drop_more}
 use Rattle.std.proofs.Math.Seq.{take-suc, take-length}
 use Rattle.std.specs.Prelude.{◌==◌}
 use Rattle.rvs_base.specs.Lines.{before, after, cut_lines, without_return}
@@ -58,3 +61,34 @@ pub lines_end : (cs l : List ℕ) → 0 < length cs → l ≡ before 10 cs → a
     → cut_lines cs ≡ l ∷ []
 lines_end [] l h e a = absurd (omega arith)
 lines_end (c ∷ cs) l h e a = grind (arith, cut_lines-cons)
+
+-- ---- where a text is cut
+no_test : (m n : ℕ) → m ≢ n → (m == n) ≡ false
+no_test m n h = grind (arith, nat_tests)
+
+module _ (b : ℕ) (text : List ℕ) (i : ℕ) (inside : i < length text) where
+  pub found_front : get_or text i 0 ≡ b → before b (drop i text) ≡ []
+  found_front e =
+      at_drop_more (before b) text i 0 inside
+      ∙ ap (λ t. cond t [] (get_or text i 0 ∷ before b (drop (i + 1) text)))
+      (eq-eqb (get_or text i 0) b e)
+
+  pub found_back : get_or text i 0 ≡ b → after b (drop i text) ≡ Some (drop (i + 1) text)
+  found_back e =
+      at_drop_more (after b) text i 0 inside
+      ∙ ap (λ t. cond t (Some (drop (i + 1) text)) (after b (drop (i + 1) text)))
+      (eq-eqb (get_or text i 0) b e)
+
+  pub passed_front : (get_or text i 0 ≢ b)
+      → before b (drop i text) ≡ get_or text i 0 ∷ before b (drop (i + 1) text)
+  passed_front e =
+      at_drop_more (before b) text i 0 inside
+      ∙ ap (λ t. cond t [] (get_or text i 0 ∷ before b (drop (i + 1) text)))
+      (no_test (get_or text i 0) b e)
+
+  pub passed_back : (get_or text i 0 ≢ b)
+      → after b (drop i text) ≡ after b (drop (i + 1) text)
+  passed_back e =
+      at_drop_more (after b) text i 0 inside
+      ∙ ap (λ t. cond t (Some (drop (i + 1) text)) (after b (drop (i + 1) text)))
+      (no_test (get_or text i 0) b e)

@@ -1,5 +1,5 @@
 // The places of a cross point.
-ghost use Rattle.std.specs.Prelude.{◌≡◌, ◌-◌, ◌≤◌, IfOk, drop, length, map, option_map, take};
+ghost use Rattle.std.specs.Prelude.{◌≡◌, ◌-◌, ◌≤◌, [], IfOk, drop, length, map, option_map, take};
 ghost use Rattle.rvs_expr.specs.TypedView.{view};
 ghost use Rattle.rvs_cross.specs.declared.refusal.CrossRefusal.TheVariants as refusal;
 ghost use Rattle.rvs_text.specs.Bytes.{name_length};
@@ -11,7 +11,7 @@ use crate::cross::Place;
 use crate::entries::ops;
 use crate::refusal::CrossRefusal;
 use crate::variables::sets;
-use rvs_base::{Items, Text, beside};
+use rvs_base::{Items, Text, beside, release};
 use rvs_expr::{Expr, ExprKind, ExprRefusal, parse_reg};
 use rvs_fault::Fault;
 use rvs_text::bytes::name_length;
@@ -124,6 +124,33 @@ fn place(
     }
 }
 
+/// Adds the places of the entries of three lists.
+fn fill(
+    alloc: Global,
+    list: &mut Items<Place>,
+    variables: &[Text],
+    mnemonics: &[&str],
+    assignments: &[&str],
+    conditions: &[&str],
+) -> Result<(), Fault<CrossRefusal>>
+    requires empty { list.old ≡ [] }
+    requires few { length variables.now ≤ 3 }
+    requires sets { length assignments.now ≡ length mnemonics.now }
+    requires conditions { length conditions.now ≡ length mnemonics.now }
+    ensures places { AnswersWith (λ _. map place_view list.new) result
+        (spec.places variables.now (map (λ t. t.now) mnemonics.now)
+        (map (λ t. t.now) assignments.now) (map (λ t. t.now) conditions.now)) }
+    ensures length { IfOk result (λ _. length list.new ≡ length mnemonics.now) }
+{
+    for (i, entry) in mnemonics.iter().enumerate() {
+        match place(alloc, variables, entry, assignments[i], conditions[i]) {
+            Ok(place) => list.push(place)?,
+            Err(fault) => return Err(fault),
+        }
+    }
+    Ok(())
+}
+
 /// The places of the entries of three lists.
 pub fn places(
     alloc: Global,
@@ -141,9 +168,18 @@ pub fn places(
     ensures length { IfOk result (λ ps. length ps ≡ length mnemonics.now) }
 {
     let mut list = Items::new(alloc);
-    for (i, entry) in mnemonics.iter().enumerate() {
-        let place = place(alloc, variables, entry, assignments[i], conditions[i])?;
-        list.push(place)?;
+    match fill(
+        alloc,
+        &mut list,
+        variables,
+        mnemonics,
+        assignments,
+        conditions,
+    ) {
+        Ok(()) => Ok(list),
+        Err(fault) => {
+            release(list);
+            Err(fault)
+        }
     }
-    Ok(list)
 }

@@ -11,7 +11,7 @@ use crate::cross::{Assignment, Field, Variable};
 use crate::entries::assignment;
 use crate::refusal::CrossRefusal;
 use crate::used::same_variable;
-use rvs_base::{Items, Text, beside, release};
+use rvs_base::{Items, Text, release};
 use rvs_fault::Fault;
 use rvs_text::parts;
 use std::alloc::{AllocError, Global};
@@ -22,65 +22,61 @@ fn is_noted(variables: &[Text], name: &str) -> bool
     variables.iter().any(|variable| variable.as_str() == name)
 }
 
-/// The variables with one more, where it isn't there yet.
-fn note(
-    alloc: Global,
-    name: &str,
-    variables: Items<Text>,
-) -> Result<Items<Text>, Fault<CrossRefusal>>
-    ensures { AnswersWith (λ v. v) result (spec.note name.now variables) }
+/// Adds a variable, where it isn't there yet.
+fn note(alloc: Global, name: &str, variables: &mut Items<Text>) -> Result<(), Fault<CrossRefusal>>
+    ensures { AnswersWith (λ _. variables.new) result (spec.note name.now variables.old) }
 {
     if is_noted(variables.as_slice(), name) {
-        return Ok(variables);
+        return Ok(());
     }
     if variables.as_slice().len() >= 3 {
-        release(variables);
         return Err(Fault::Refused(CrossRefusal::TooManyVariables));
     }
-    let (name, variables) = beside(String::from_str(alloc, name), variables)?;
-    let mut variables = variables;
+    let name = String::from_str(alloc, name)?;
     variables.push(Text::from(name))?;
-    Ok(variables)
+    Ok(())
 }
 
-/// The variables with that of an assignment.
+/// Adds the variable of an assignment.
 fn note_part(
     alloc: Global,
     part: &str,
-    variables: Items<Text>,
-) -> Result<Items<Text>, Fault<CrossRefusal>>
-    ensures { AnswersWith (λ v. v) result (spec.note_part part.now variables) }
+    variables: &mut Items<Text>,
+) -> Result<(), Fault<CrossRefusal>>
+    ensures { AnswersWith (λ _. variables.new) result (spec.note_part part.now variables.old) }
 {
     match assignment(part) {
         Some((name, _)) => note(alloc, name, variables),
-        None => Ok(variables),
+        None => Ok(()),
     }
 }
 
 fn note_parts(
     alloc: Global,
     parts: &[&str],
-    variables: Items<Text>,
-) -> Result<Items<Text>, Fault<CrossRefusal>>
-    ensures { AnswersWith (λ v. v) result
-        (for_each spec.note_part (map (λ t. t.now) parts.now) variables) }
+    variables: &mut Items<Text>,
+) -> Result<(), Fault<CrossRefusal>>
+    ensures { AnswersWith (λ _. variables.new) result
+        (for_each spec.note_part (map (λ t. t.now) parts.now) variables.old) }
 {
-    let mut variables = variables;
     for part in parts {
-        variables = note_part(alloc, part, variables)?;
+        match note_part(alloc, part, variables) {
+            Ok(()) => {}
+            Err(fault) => return Err(fault),
+        }
     }
-    Ok(variables)
+    Ok(())
 }
 
-/// The variables with those of an entry.
+/// Adds the variables of an entry.
 fn note_entry(
     alloc: Global,
     entry: &str,
-    variables: Items<Text>,
-) -> Result<Items<Text>, Fault<CrossRefusal>>
-    ensures { AnswersWith (λ v. v) result (spec.note_entry entry.now variables) }
+    variables: &mut Items<Text>,
+) -> Result<(), Fault<CrossRefusal>>
+    ensures { AnswersWith (λ _. variables.new) result (spec.note_entry entry.now variables.old) }
 {
-    let (parts, variables) = beside(parts(alloc, ';', entry), variables)?;
+    let parts = parts(alloc, ';', entry)?;
     let noted = note_parts(alloc, parts.as_slice(), variables);
     release(parts);
     noted
@@ -94,7 +90,7 @@ pub fn variables(alloc: Global, entries: &[&str]) -> Result<Items<Text>, Fault<C
 {
     let mut variables = Items::new(alloc);
     for entry in entries {
-        variables = note_entry(alloc, entry, variables)?;
+        note_entry(alloc, entry, &mut variables)?;
     }
     Ok(variables)
 }

@@ -1,6 +1,7 @@
 // Values in boxes.
 ghost use Rattle.std.specs.Prelude.{◌≡◌, Ok, IfOk};
 
+use rvs_base::beside;
 use std::alloc::{AllocError, Global};
 
 /// What was made, in a box.
@@ -14,16 +15,31 @@ pub(crate) fn boxed<T: Drop>(
     Ok(Box::new(alloc, made?)?)
 }
 
-/// A value and what was made after it, each in a box.
+/// What was made, where both were.
+#[inline]
+pub(crate) fn both<T: Drop, U: Drop>(
+    left: Result<T, AllocError>,
+    right: Result<U, AllocError>,
+) -> Result<(T, U), AllocError>
+    ensures { IfOk result (λ p. (left ≡ Ok p.0) × (right ≡ Ok p.1)) }
+{
+    match left {
+        Ok(left) => {
+            let (right, left) = beside(right, left)?;
+            Ok((left, right))
+        }
+        Err(cause) => Err(cause),
+    }
+}
+
+/// What was made, each in a box, where both were.
 #[inline]
 pub(crate) fn boxes<T: Drop>(
     alloc: Global,
-    left: T,
+    left: Result<T, AllocError>,
     right: Result<T, AllocError>,
 ) -> Result<(Box<T>, Box<T>), AllocError>
-    ensures { IfOk result (λ p. (p.0.value ≡ left) × (right ≡ Ok p.1.value)) }
+    ensures { IfOk result (λ p. (left ≡ Ok p.0.value) × (right ≡ Ok p.1.value)) }
 {
-    let right = right?;
-    let left = Box::new(alloc, left)?;
-    Ok((left, Box::new(alloc, right)?))
+    both(boxed(alloc, left), boxed(alloc, right))
 }

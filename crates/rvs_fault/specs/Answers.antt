@@ -3,6 +3,11 @@ use Rattle.std.specs.Prelude.{◌≡◌, Result, Ok, Err}
 use Rattle.rvs_fault.specs.declared.faults.Fault.{Fault}
 use Rattle.rvs_fault.specs.declared.faults.Fault.TheVariants.{Refused}
 
+-- an answer whose value is seen so
+abbrev pub seen : {A B R : Type 0} → (A → B) → Result A R → Result B R
+seen see (Ok a) = Ok (see a)
+seen see (Err refusal) = Err refusal
+
 -- a fault has this refusal, or it is want of memory
 abbrev pub IfRefused : {R : Type 0} → Fault R → (R → Type 0) → Type 0
 IfRefused {R} fault P = (refusal : R) → fault ≡ Refused refusal → P refusal

@@ -11,11 +11,12 @@ ghost use Rattle.rvs_generate.specs.Tests.{held, test_with, tests_of_label, test
 use crate::listing::push_total;
 use crate::making::{Said, say_made};
 use crate::sources::Source;
-use rvs_base::{Items, NoMemory, Text};
+use rvs_base::{Items, NoMemory, Text, release};
 use rvs_cgf::Label;
 use rvs_count::push_unselected;
 use rvs_inputs::Inputs;
 use rvs_insn::IsaSpec;
+use rvs_test::Made;
 use rvs_words::owned;
 use std::alloc::Global;
 
@@ -102,8 +103,15 @@ fn gather_label(
         ≡ tests.old ++ held (tests_of_label isa.now (label_view label.now))) }
 {
     if label.selected {
-        let made = say_made(alloc, isa, label, said)?;
-        return push_test(alloc, label, made.text, made.steps, tests);
+        let Made {
+            text,
+            claims,
+            unsolved,
+            steps,
+        } = say_made(alloc, isa, label, said)?;
+        release(claims);
+        release(unsolved);
+        return push_test(alloc, label, text, steps, tests);
     }
     push_unselected(alloc, &mut said.text, label)
 }

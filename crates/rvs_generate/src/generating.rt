@@ -17,7 +17,7 @@ use crate::listing::push_total;
 use crate::making::{Said, say_made};
 use crate::rooms::read_labels;
 use crate::test_files::test_path;
-use rvs_base::{Host, Sink, Text};
+use rvs_base::{Host, Sink, Text, release};
 use rvs_cgf::Label;
 use rvs_count::push_unselected;
 use rvs_inputs::{Inputs, print_text, release_inputs};
@@ -140,7 +140,9 @@ fn write_selected<H: Host>(
         ≡ texts.with_selected isa.now (totals_view said.old.totals) (label_view label.now)) }
 {
     let made = say_made(alloc, isa, label, said)?;
-    write_text(alloc, host, work, &label.name, &made.text)
+    let written = write_text(alloc, host, work, &label.name, &made.text);
+    release(made);
+    written
 }
 
 fn write_text<H: Host>(

@@ -6,7 +6,7 @@ ghost use Rattle.rvs_generate.specs.GenerateTexts as texts;
 ghost use Rattle.rvs_generate.specs.GenerateView.{IsMade, totals_view};
 
 use crate::listing::{Totals, push_made};
-use rvs_base::{NoMemory, Text};
+use rvs_base::{NoMemory, Text, beside};
 use rvs_cgf::Label;
 use rvs_expr::Steps;
 use rvs_free::Free;
@@ -55,7 +55,7 @@ pub fn say_made(
         ≡ texts.with_selected isa.now (totals_view said.old.totals) (label_view label.now)) }
 {
     let made = made_of(alloc, label, isa)?;
-    push_made(alloc, &mut said.text, label, &made)?;
+    let ((), made) = beside(push_made(alloc, &mut said.text, label, &made), made)?;
     said.totals.add(label, &made);
     Ok(made)
 }

@@ -1,6 +1,7 @@
 // Whether a core has room for the tests of labels.
 ghost use Rattle.std.specs.Prelude.{◌≡◌, ◌<◌, All, IfOk, find, option_map};
 ghost use Rattle.rvs_base.specs.Sink.{SinkState};
+ghost use Rattle.rvs_fault.specs.Answers.{seen};
 ghost use Rattle.rvs_plan.specs.World.{World, world};
 ghost use Rattle.rvs_plan.specs.Plan.{Ends};
 ghost use Rattle.rvs_plan.specs.Meets.{Meets};
@@ -8,7 +9,6 @@ ghost use Rattle.rvs_insn.specs.Memory.{HasRoom};
 ghost use Rattle.rvs_cgf.specs.GroupView.{label_view};
 ghost use Rattle.rvs_points.specs.Valid.{IsValid, IsValidIfSelected};
 ghost use Rattle.rvs_test.specs.Made as made;
-ghost use Rattle.rvs_inputs.specs.Seen.{seen};
 ghost use Rattle.rvs_inputs.specs.GroupsView.{groups_view, inputs_view};
 ghost use Rattle.rvs_generate.specs.TestedInputs.{lacks_room, no_room, with_room, tested_inputs};
 ghost use Rattle.rvs_generate.specs.Testable.{IsTestableIfSelected};
@@ -16,7 +16,7 @@ ghost use Rattle.rvs_generate.specs.TestedInputs.{part_inputs};
 ghost use Rattle.rvs_inputs.specs.GroupFiles.{parted_inputs};
 
 use rvs_abstract::Families;
-use rvs_base::{Host, Items, NoMemory, Text};
+use rvs_base::{Host, Items, NoMemory, Text, release};
 use rvs_cgf::{CgfKind, CgfRefusal, Label};
 use rvs_expr::Steps;
 use rvs_free::Free;
@@ -144,7 +144,9 @@ fn no_room(alloc: Global, label: &Label) -> Result<Text, NoMemory>
         key: Text::new(alloc),
         kind: CgfKind::NoRoom,
     };
-    input_text(alloc, GROUPS_NAME, &refusal)
+    let text = input_text(alloc, GROUPS_NAME, &refusal);
+    release(refusal);
+    text
 }
 
 /// Reads an ISA file, and then coverage group files for its core, of which the labels of a part are

@@ -1,10 +1,10 @@
 // The files of a label's test.
-ghost use Rattle.std.specs.Prelude.{◌≡◌, IfOk};
+ghost use Rattle.std.specs.Prelude.{◌≡◌, ◌++◌, IfOk, codes};
 ghost use Rattle.rvs_generate.specs.Generate.{path_of};
 ghost use Rattle.rvs_generate.specs.TestFiles.{files_of, files_at};
 
 use crate::sources::Given;
-use rvs_base::{NoMemory, Text};
+use rvs_base::{NoMemory, Text, release};
 use rvs_words::owned;
 use std::alloc::Global;
 
@@ -30,12 +30,8 @@ impl TestFiles {
     pub fn new(alloc: Global, work: &Text, name: &Text) -> Result<TestFiles, NoMemory>
         ensures { IfOk result (λ files. files ≡ files_of work.now name.now) }
     {
-        Ok(TestFiles {
-            test: test_path(alloc, work, name)?,
-            executable: executable_path(alloc, work, name)?,
-            reference: reference_path(alloc, work, name)?,
-            device: device_path(alloc, work, name)?,
-        })
+        let test = test_path(alloc, work, name)?;
+        with_test(alloc, work, name, test)
     }
 
     /// Those of a test of its own name at a place of a database: the others are named by the place.
@@ -48,13 +44,28 @@ impl TestFiles {
     {
         let place = given.place;
         let name = Text::from(format!(in alloc; "{place}")?);
-        Ok(TestFiles {
-            test: owned(alloc, given.name.as_str())?,
-            executable: executable_path(alloc, work, &name)?,
-            reference: reference_path(alloc, work, &name)?,
-            device: device_path(alloc, work, &name)?,
-        })
+        let test = owned(alloc, given.name.as_str())?;
+        let files = with_test(alloc, work, &name, test);
+        release(name);
+        files
     }
+}
+
+/// The files that are named by a name, with a test.
+fn with_test(alloc: Global, work: &Text, name: &Text, test: Text) -> Result<TestFiles, NoMemory>
+    ensures { IfOk result (λ files. files ≡ record {
+      test = test;
+      executable = (files_of work.now name.now).executable;
+      reference = (files_of work.now name.now).reference;
+      device = (files_of work.now name.now).device;
+    }) }
+{
+    Ok(TestFiles {
+        test,
+        executable: path(alloc, work, name, ".elf")?,
+        reference: path(alloc, work, name, ".reference.sig")?,
+        device: path(alloc, work, name, ".device.sig")?,
+    })
 }
 
 /// The test of the label of this name in a folder.
@@ -65,23 +76,12 @@ impl TestFiles {
 pub fn test_path(alloc: Global, work: &Text, name: &Text) -> Result<Text, NoMemory>
     ensures { IfOk result (λ path. path ≡ path_of work.now name.now) }
 {
-    Ok(Text::from(format!(in alloc; "{work}/{name}.S")?))
+    path(alloc, work, name, ".S")
 }
 
-fn executable_path(alloc: Global, work: &Text, name: &Text) -> Result<Text, NoMemory>
-    ensures { IfOk result (λ path. path ≡ (files_of work.now name.now).executable) }
+fn path(alloc: Global, work: &Text, name: &Text, ending: &str) -> Result<Text, NoMemory>
+    ensures { IfOk result (λ path. path
+        ≡ work.now ++ (codes "/" ++ (name.now ++ ending.now))) }
 {
-    Ok(Text::from(format!(in alloc; "{work}/{name}.elf")?))
-}
-
-fn reference_path(alloc: Global, work: &Text, name: &Text) -> Result<Text, NoMemory>
-    ensures { IfOk result (λ path. path ≡ (files_of work.now name.now).reference) }
-{
-    Ok(Text::from(format!(in alloc; "{work}/{name}.reference.sig")?))
-}
-
-fn device_path(alloc: Global, work: &Text, name: &Text) -> Result<Text, NoMemory>
-    ensures { IfOk result (λ path. path ≡ (files_of work.now name.now).device) }
-{
-    Ok(Text::from(format!(in alloc; "{work}/{name}.device.sig")?))
+    Ok(Text::from(format!(in alloc; "{work}/{name}{ending}")?))
 }

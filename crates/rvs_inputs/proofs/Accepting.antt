@@ -1,6 +1,6 @@
 -- What comes of pieces of work that have no effects.
 use Rattle.std.proofs.Common.{◌≡◌, ◌∙◌, ℕ, List, Result, Ok, Err, refl, sym, ap, subst, inl, inr}
-use Rattle.rvs_fault.specs.Answers.{Answers, AnswersAs}
+use Rattle.rvs_fault.specs.Answers.{Answers, AnswersAs, seen}
 use Rattle.rvs_fault.specs.declared.faults.Fault.{Fault}
 use Rattle.rvs_fault.specs.declared.faults.Fault.TheVariants as fault
 use Rattle.rvs_plan.specs.World.{World, contents}
@@ -12,7 +12,6 @@ use Rattle.rvs_plan.specs.declared.stop.Stop.TheVariants.{Refused, NoMemory}
 use Rattle.rvs_plan.proofs.Reaching.{Reaches-start}
 use Rattle.rvs_plan.proofs.Amounts.{IsUnread-same, ReadsOnWay-start}
 use Rattle.rvs_plan.proofs.Sequence.{Later-start, Unfaulted-start, Meets-gives, Meets-no_memory}
-use Rattle.rvs_inputs.specs.Seen.{seen}
 
 pub Meets-refused : {A : Type 0} (text : List ℕ) (w : World)
     → Meets {A = A} (Ends (Err (Refused text))) w w (Err (Refused text))

@@ -2,7 +2,6 @@ pub mod Specification
 pub mod Printing
 pub mod GroupTexts
 pub mod GroupFiles
-pub mod Seen
 pub mod GroupsView
 pub mod DeviceInput
 pub mod DatabaseInput

@@ -1,12 +1,12 @@
 // Reading a device file.
 ghost use Rattle.rvs_base.specs.Sink.{SinkState};
+ghost use Rattle.rvs_fault.specs.Answers.{seen};
 ghost use Rattle.rvs_plan.specs.World.{World, world};
 ghost use Rattle.rvs_plan.specs.Plan.{Ends};
 ghost use Rattle.rvs_plan.specs.Meets.{Meets};
 ghost use Rattle.rvs_tree.specs.TreeView.{view};
 ghost use Rattle.rvs_device.specs.DeviceFile.{told_in};
 ghost use Rattle.rvs_device.specs.DeviceView.{told};
-ghost use Rattle.rvs_inputs.specs.Seen.{seen};
 ghost use Rattle.rvs_inputs.specs.DeviceInput.{checked_end, checks, device_file};
 
 use rvs_base::{Host, Text};

@@ -1,6 +1,7 @@
 // Reading coverage group files.
 ghost use Rattle.std.specs.Prelude.{◌≡◌, All, Option, IfOk};
 ghost use Rattle.rvs_base.specs.Sink.{SinkState};
+ghost use Rattle.rvs_fault.specs.Answers.{seen};
 ghost use Rattle.rvs_plan.specs.World.{World, world};
 ghost use Rattle.rvs_plan.specs.Plan.{Ends};
 ghost use Rattle.rvs_plan.specs.Meets.{Meets};
@@ -8,7 +9,6 @@ ghost use Rattle.rvs_tree.specs.TreeView.{view};
 ghost use Rattle.rvs_cgf.specs.GroupView.{label_view};
 ghost use Rattle.rvs_points.specs.Valid.{IsValidIfSelected};
 ghost use Rattle.rvs_cgf.specs.Groups.{groups_of};
-ghost use Rattle.rvs_inputs.specs.Seen.{seen};
 ghost use Rattle.rvs_inputs.specs.GroupsView.{groups_view, inputs_view};
 ghost use Rattle.rvs_inputs.specs.GroupFiles.{joined, joins, joins_all, room, within_limit};
 ghost use Rattle.rvs_inputs.specs.GroupFiles.{checked_groups, groups_found, group_files};

@@ -1,6 +1,7 @@
 // The entries that no check reads.
-ghost use Rattle.std.specs.Prelude.{◌≡◌, ◌++◌, IfOk, OnOk};
+ghost use Rattle.std.specs.Prelude.{◌≡◌, ◌++◌, ◌∷◌, [], IfOk, OnOk, map};
 ghost use Rattle.rvs_tree.specs.TreeView.{view};
+ghost use Rattle.rvs_isa.specs.Refusal.{path_text};
 ghost use Rattle.rvs_isa.specs.Unread.{unread, each_entry, is_checked, unread_of_root};
 ghost use Rattle.rvs_isa.specs.Unread.{unread_of_hart, unread_of_misa, unread_of_memory};
 
@@ -26,6 +27,13 @@ pub fn unread(alloc: Global, hart: &str, root: &Tree) -> Result<Items<Text>, NoM
     Ok(paths)
 }
 
+fn add_path(alloc: Global, paths: &mut Items<Text>, path: &[&str]) -> Result<(), NoMemory>
+    ensures { OnOk result
+        (paths.new ≡ paths.old ++ path_text (map (λ k. k.now) path.now) ∷ []) }
+{
+    paths.push(path_text(alloc, path)?)
+}
+
 fn add_of_root(
     alloc: Global,
     paths: &mut Items<Text>,
@@ -41,7 +49,7 @@ fn add_of_root(
     } else if key == "hart_ids" {
         Ok(())
     } else {
-        paths.push(path_text(alloc, &[key])?)
+        add_path(alloc, paths, &[key])
     }
 }
 
@@ -79,7 +87,7 @@ fn add_of_hart(
     } else if is_checked(key) {
         Ok(())
     } else {
-        paths.push(path_text(alloc, &[hart, key])?)
+        add_path(alloc, paths, &[hart, key])
     }
 }
 
@@ -120,7 +128,7 @@ fn add_of_misa(
     if key == "reset-val" {
         Ok(())
     } else {
-        paths.push(path_text(alloc, &[hart, "misa", key])?)
+        add_path(alloc, paths, &[hart, "misa", key])
     }
 }
 
@@ -152,6 +160,6 @@ fn add_of_memory(
     if key == "text" || key == "data" {
         Ok(())
     } else {
-        paths.push(path_text(alloc, &[hart, "memory_map", key])?)
+        add_path(alloc, paths, &[hart, "memory_map", key])
     }
 }

@@ -2,13 +2,15 @@
 use Rattle.std.proofs.Common.{◌≡◌, ℕ, ◌+◌, ◌-◌, ◌^◌, ◌<◌, ◌≤◌, List, [], ◌++◌, length, take}
 use Rattle.std.proofs.Common.{Bool, refl, subst, arith}
 use Rattle.std.proofs.lemmas.List.{append_assoc, append-nil, length-append, length-take-le}
-use Rattle.rvs_base.specs.Host.{HostState, ReadsOnly, Opens, Takes}
+use Rattle.rvs_base.specs.Host.{HostState, ReadsOnly, OpenCause, Opens, Takes}
+use Rattle.rvs_base.specs.declared.host.OpenFault.{OpenFault}
+use Rattle.rvs_base.specs.declared.host.OpenFault.TheVariants as opening
 use Rattle.rvs_log.proofs.Taking.{HasTaken, HasTaken-start, HasTaken-more, HasTaken-whole}
 use Rattle.rvs_log.proofs.Taking.{HasTaken-front, HasTaken-longer, not-above}
 use Rattle.rvs_log.specs.Grammar.{Reading}
 use Rattle.rvs_log.specs.Taken.{Taken}
 use Rattle.rvs_base.specs.Sink.{SinkState}
-use Rattle.rvs_log.specs.Feeds.{Fed, FeedsFile, FeedsFront, FeedCause, IsLong}
+use Rattle.rvs_log.specs.Feeds.{Fed, FeedsFile, FeedsFront, FeedCause, IsLong, fault_of}
 use Rattle.rvs_log.specs.Progress.{Loses}
 use Rattle.rvs_log.specs.declared.fault.LogFault.{LogFault}
 
@@ -83,6 +85,20 @@ pub HasFed-front : {T : Type 0} {step : T → Reading → T}
     {name : List ℕ} {old now : HostState} {c c' : Taken T}
     → HasFed step name old now c c' → FeedsFront step name old c c'
 HasFed-front h = record { bytes = h.bytes; fed = h.fed; front = HasTaken-front h.took }
+
+-- a file that isn't opened
+pub feeds-none : {T : Type 0} (step : T → Reading → T) (name : List ℕ) (old : HostState)
+    (c : Taken T) → FeedsFront step name old c c
+feeds-none step name old c = record {
+  bytes = [];
+  fed = Fed-none c;
+  front = λ files file told is. (file, refl);
+}
+
+pub cause-unopened : {T : Type 0} (name : List ℕ) (old new : HostState) (c : Taken T)
+    (fault : OpenFault) → OpenCause name old new fault → FeedCause name old new c c (fault_of fault)
+cause-unopened name old new c opening.NoFile h = (h, refl)
+cause-unopened name old new c opening.Failed h = h
 
 -- one piece too much
 pub HasFed-long : {T : Type 0} {step : T → Reading → T}

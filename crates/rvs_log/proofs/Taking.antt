@@ -1,5 +1,5 @@
 -- A file that is taken piece by piece.
-use Rattle.std.proofs.Common.{◌≡◌, ◌≤◌, ◌<◌, ◌+◌, ℕ, true, false, is_some, List, [], ◌++◌}
+use Rattle.std.proofs.Common.{◌≡◌, ◌≤◌, ◌<◌, ◌+◌, ℕ, true, is_some, List, [], ◌++◌}
 use Rattle.std.proofs.Common.{length, take, drop, Option, Some, Result, nat_lt}
 use Rattle.std.proofs.Common.{sym, ap, ◌∙◌, arith}
 use Rattle.std.specs.Prelude.{OnErr}

@@ -3,7 +3,7 @@ use Rattle.std.proofs.Common.{◌≡◌, ◌≤◌, ◌<◌, ◌+◌, ◌/◌, �
 use Rattle.std.proofs.Common.{cond, List, [], ◌++◌, length, Option, Some, nat_lt, nat_le}
 use Rattle.std.proofs.Common.{Result, Err}
 use Rattle.std.proofs.Common.{IfErr, refl, sym, ap, ◌∙◌, subst, arith, append-nil, rules}
-use Rattle.std.specs.Prelude.{IsTrue}
+use Rattle.std.specs.Prelude.{IsTrue, OnOk}
 use Rattle.std.proofs.lemmas.Bool.{leb-true, leb-false}
 use Rattle.std.proofs.lemmas.List.{append_assoc, length-append}
 use Rattle.rvs_base.specs.Host.{HostState, Files, Tells}
@@ -103,6 +103,9 @@ so-far-front false name a b h = front-none (progress_lines name b)
 -- ---- what a result says
 pub if-err : {T E : Type 0} (r : Result T E) (e : E) (P : E → Type 0) → r ≡ Err e → P e → IfErr r P
 if-err r e P is p = subst (λ r. IfErr r P) (sym is) p
+
+pub not-ok : {T E : Type 0} (r : Result T E) (e : E) (P : Type 0) → r ≡ Err e → OnOk r P
+not-ok r e P is = subst (λ r. OnOk r P) (sym is) tt
 
 -- ---- a file that is read
 -- what was put while these bytes were taken is a front of the lines of the file

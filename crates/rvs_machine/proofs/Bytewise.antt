@@ -10,6 +10,51 @@ four size (inl a) n m = absurd (n a)
 four size (inr (inl b)) n m = absurd (m b)
 four size (inr (inr c)) n m = c
 
+-- the first byte isn't in memory
+pub first_missing : (m : Memory) (size : ℕ) (text ram : List ℕ) (at : ℕ) → IsSize size
+    → byte_at m text ram at ≡ None → load_bytes m size text ram at ≡ None
+first_missing m size text ram at (inl one) e =
+    ap (λ n. load_bytes m n text ram at) one ∙ ap (λ x. above x (Some 0)) e
+first_missing m size text ram at (inr (inl two)) e =
+    ap (λ n. load_bytes m n text ram at) two
+    ∙ ap (λ x. above x (load_bytes m 1 text ram (at + 1))) e
+first_missing m size text ram at (inr (inr four)) e =
+    ap (λ n. load_bytes m n text ram at) four
+    ∙ ap (λ x. above x (load_bytes m 3 text ram (at + 1))) e
+
+-- a byte alone
+pub one_there : (m : Memory) (size : ℕ) (text ram : List ℕ) (at a : ℕ) → size ≡ 1
+    → byte_at m text ram at ≡ Some a → load_bytes m size text ram at ≡ Some a
+one_there m size text ram at a one e =
+    ap (λ n. load_bytes m n text ram at) one ∙ ap (λ x. above x (Some 0)) e
+    ∙ ap (λ (x : ℕ). Some x) (let same : a + 0 * 256 ≡ a = omega arith in same)
+
+-- the second byte isn't in memory
+pub second_missing : (m : Memory) (size : ℕ) (text ram : List ℕ) (at a : ℕ) → IsSize size
+    → size ≢ 1 → byte_at m text ram at ≡ Some a → byte_at m text ram (at + 1) ≡ None
+    → load_bytes m size text ram at ≡ None
+second_missing m size text ram at a (inl p) one e f = absurd (one p)
+second_missing m size text ram at a (inr (inl two)) one e f =
+    ap (λ n. load_bytes m n text ram at) two
+    ∙ ap (λ x. above x (above (byte_at m text ram (at + 1)) (Some 0))) e
+    ∙ ap (λ x. above (Some a) (above x (Some 0))) f
+second_missing m size text ram at a (inr (inr four)) one e f =
+    ap (λ n. load_bytes m n text ram at) four
+    ∙ ap (λ x. above x (above (byte_at m text ram (at + 1)) (load_bytes m 2 text ram (at + 1 + 1))))
+    e
+    ∙ ap (λ x. above (Some a) (above x (load_bytes m 2 text ram (at + 1 + 1)))) f
+
+-- two bytes
+pub two_there : (m : Memory) (size : ℕ) (text ram : List ℕ) (at a b : ℕ) → size ≡ 2
+    → byte_at m text ram at ≡ Some a → byte_at m text ram (at + 1) ≡ Some b
+    → load_bytes m size text ram at ≡ Some (a + b * 0x100)
+two_there m size text ram at a b two e f =
+    ap (λ n. load_bytes m n text ram at) two
+    ∙ ap (λ x. above x (above (byte_at m text ram (at + 1)) (Some 0))) e
+    ∙ ap (λ x. above (Some a) (above x (Some 0))) f
+    ∙ ap (λ (x : ℕ). Some x)
+    (let same : a + (b + 0 * 256) * 256 ≡ a + b * 0x100 = omega arith in same)
+
 -- a word of which these are the bytes
 word_of_four : (m : Memory) (text ram : List ℕ) (at : ℕ) (a b c d : Option ℕ)
     → byte_at m text ram at ≡ a → byte_at m text ram (at + 1) ≡ b

@@ -1,5 +1,6 @@
 // The bytes of text and data.
 ghost use Rattle.std.specs.Prelude.{◌≡◌, ◌≤◌, ◌<◌, ◌+◌, ◌*◌, ◌%◌, ◌^◌, length, ℕ, List, Some};
+ghost use Rattle.std.specs.Prelude.{IfSome};
 ghost use Rattle.rvs_insn.specs.Memory.{text_limit, data_limit};
 ghost use Rattle.rvs_machine.specs.Machine.{byte_at, load_bytes, is_in_data, store_bytes, extended};
 ghost use Rattle.rvs_machine.specs.Machine.{word_at, fetch};
@@ -97,7 +98,8 @@ fn load_bytewise(memory: MemoryMap, text: &[u8], ram: &[u8], size: u8, address: 
 fn byte(memory: MemoryMap, text: &[u8], ram: &[u8], at: u64) -> Option<u32>
     requires short_text { length text.now ≤ text_limit memory }
     requires short_data { length ram.now ≤ data_limit memory }
-    ensures { result ≡ byte_at memory text.now ram.now at }
+    ensures value { result ≡ byte_at memory text.now ram.now at }
+    ensures small { IfSome result (λ b. b < 256) }
 {
     let text_base = u64::from(memory.text_base);
     let data_base = u64::from(memory.data_base);

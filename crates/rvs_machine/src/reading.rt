@@ -8,7 +8,7 @@ ghost use Rattle.rvs_machine.specs.ImageNumbers.{image_number};
 
 use crate::image::Image;
 use crate::lines::Lines;
-use rvs_base::{Bytes, Items, short_number};
+use rvs_base::{Bytes, Items, beside, release, short_number};
 use rvs_fault::Fault;
 use rvs_insn::MemoryMap;
 use std::alloc::Global;
@@ -79,13 +79,14 @@ pub fn read_image(
         b"text ",
         u64::from(memory.text_limit()) / 4,
     )?;
-    let data_bytes = section(
+    let read = section(
         alloc,
         &mut lines,
         b"data ",
         u64::from(memory.data_limit()) / 4,
-    )?;
-    let at = address_lines(&mut lines)?;
+    );
+    let (data_bytes, text) = beside(read, text)?;
+    let (at, (text, data_bytes)) = beside(address_lines(&mut lines), (text, data_bytes))?;
     Ok(whole(alloc, memory, &mut lines, text, data_bytes, at)?)
 }
 
@@ -112,6 +113,8 @@ fn whole(
 {
     let number = lines.number();
     if lines.take().is_some() {
+        release(text);
+        release(data_bytes);
         return Err(bad_line(number));
     }
     match Image::new(

@@ -1,12 +1,12 @@
 -- What `normalize` does.
 use Rattle.std.specs.Prelude.{ℕ, List, None}
 use Rattle.rvs_abstract.specs.declared.families.Families.{Families}
+use Rattle.rvs_fault.specs.Answers.{seen}
 use Rattle.rvs_plan.specs.Plan.{Plan, Ends, ◌>>=◌}
 use Rattle.rvs_plan.specs.declared.status.Finish.{Finish}
 use Rattle.rvs_insn.specs.Isa.{Isa}
 use Rattle.rvs_cgf.specs.Print.{normal_text}
 use Rattle.rvs_inputs.specs.Printing.{print_text}
-use Rattle.rvs_inputs.specs.Seen.{seen}
 use Rattle.rvs_inputs.specs.Specification.{specification}
 use Rattle.rvs_inputs.specs.GroupFiles.{Inputs, joins_all, groups_found, group_inputs}
 use Rattle.rvs_words.specs.declared.command.NormalizeArguments.{NormalizeArguments}

@@ -1,13 +1,13 @@
 // The command `normalize`.
 ghost use Rattle.std.specs.Prelude.{Ok, Err};
 ghost use Rattle.rvs_base.specs.Sink.{SinkState};
+ghost use Rattle.rvs_fault.specs.Answers.{seen};
 ghost use Rattle.rvs_plan.specs.World.{World, world};
 ghost use Rattle.rvs_plan.specs.Plan.{Ends};
 ghost use Rattle.rvs_plan.specs.Meets.{Meets};
 ghost use Rattle.rvs_tree.specs.TreeView.{view};
 ghost use Rattle.rvs_cgf.specs.Groups.{groups_of};
 ghost use Rattle.rvs_cgf.specs.Print.{normal_text};
-ghost use Rattle.rvs_inputs.specs.Seen.{seen};
 ghost use Rattle.rvs_inputs.specs.GroupFiles.{checked_groups, groups_found};
 ghost use Rattle.rvs_plain.specs.Normalize.{normal_files, normal_inputs, normalize};
 

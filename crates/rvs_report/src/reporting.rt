@@ -3,7 +3,7 @@ ghost use Rattle.std.specs.Prelude.{◌≡◌, [], All, IfOk, take, drop};
 ghost use Rattle.rvs_base.specs.Host.{HostState};
 ghost use Rattle.rvs_base.specs.Sink.{SinkState};
 ghost use Rattle.rvs_plan.specs.World.{World, world, IsAnswer};
-ghost use Rattle.rvs_plan.specs.Plan.{gives};
+ghost use Rattle.rvs_plan.specs.Plan.{gives, ◌>>=◌ as followed};
 ghost use Rattle.rvs_plan.specs.Meets.{MeetsWith, Meets};
 ghost use Rattle.rvs_cgf.specs.GroupView.{label_view};
 ghost use Rattle.rvs_count.specs.Report.{width};
@@ -11,9 +11,8 @@ ghost use Rattle.rvs_device.specs.DeviceView.{told};
 ghost use Rattle.rvs_page.specs.declared.shown.State.TheVariants as state;
 ghost use Rattle.rvs_test.specs.Made.{text_of_label};
 ghost use Rattle.rvs_report.specs.Findings.{found_open};
-ghost use Rattle.rvs_generate.specs.GenerateView.{IsMade};
 ghost use Rattle.rvs_inputs.specs.GroupsView.{groups_view, inputs_view};
-ghost use Rattle.rvs_showing.specs.Showing.{shown_label, shown_unselected};
+ghost use Rattle.rvs_showing.specs.Showing.{shown_label};
 ghost use Rattle.rvs_generate.specs.Testable.{IsTestable, IsTestableIfSelected};
 ghost use Rattle.rvs_generate.specs.Tests.{IsRunnable};
 ghost use Rattle.rvs_report.specs.Report.{end_by, instructions_in, page_with, shown_core};
@@ -21,7 +20,7 @@ ghost use Rattle.rvs_report.specs.Report.{shows_test, shows_by, shows_label, sho
 ghost use Rattle.rvs_report.specs.Report.{finds_page, puts_page, report, shows_page};
 
 use crate::reviewing::{find_test, found_open};
-use rvs_base::{Host, Items, NoMemory, Sink, Text};
+use rvs_base::{Host, Items, NoMemory, Sink, Text, release};
 use rvs_cgf::Label;
 use rvs_coverage::{Covered, count_quietly, total_of};
 use rvs_device::Device;
@@ -61,7 +60,9 @@ fn put_page<O: Sink>(alloc: Global, page: &Page, out: &mut O) -> Result<Finish, 
         (world host (O.state out.old)) (world host (O.state out.new)) result }
 {
     let text = page_text(alloc, page)?;
-    print(out, text.as_slice())?;
+    let put = print(out, text.as_slice());
+    release(text);
+    put?;
     Ok(end_by(verdict_of(page.labels.as_slice())))
 }
 
@@ -100,10 +101,32 @@ fn show_page<H: Host>(
     let windows = asked.windows.as_slice();
     let logs = asked.logs.as_slice();
     let covered = count_quietly(alloc, host, &inputs.groups, windows, logs)?;
+    let page = show_covered(alloc, host, asked, inputs, &device, &covered);
+    release(covered);
+    release(device);
+    page
+}
+
+/// The page of what was left, where the logs are read too.
+fn show_covered<H: Host>(
+    alloc: Global,
+    host: &mut H,
+    asked: &ReportArguments,
+    inputs: &Inputs,
+    device: &Device,
+    covered: &Covered,
+) -> Result<Page, Stop>
+    requires { All (λ l. IsTestableIfSelected inputs.now.isa (label_view l)) inputs.now.groups }
+    ensures { (out : SinkState) → MeetsWith IsAnswer
+        (followed (shows_labels inputs.now.isa asked.now.work [] covered.now.counts
+        (groups_view inputs.now.groups)) (λ labels. gives
+        (page_with asked.now (inputs_view inputs.now) (told device.now) covered.now labels)))
+        (world (H.state host.old) out) (world (H.state host.new) out) result }
+{
     let groups = inputs.groups.as_slice();
     let counts = covered.counts.as_slice();
     let labels = show_labels(alloc, host, &asked.work, inputs.isa, groups, counts)?;
-    Ok(page_with(alloc, asked, inputs, &device, &covered, labels)?)
+    Ok(page_with(alloc, asked, inputs, device, covered, labels)?)
 }
 
 fn page_with(
@@ -209,16 +232,9 @@ fn show_label<H: Host>(
     if label.selected {
         show_selected(alloc, host, work, isa, label, counts)
     } else {
-        show_unselected(alloc, label)
+        let shown = unselected(alloc, label)?;
+        Ok(shown)
     }
-}
-
-fn show_unselected(alloc: Global, label: &Label) -> Result<ShownLabel, Stop>
-    ensures { (w : World) → MeetsWith IsAnswer (gives (shown_unselected (label_view label.now)))
-        w w result }
-{
-    let shown = unselected(alloc, label)?;
-    Ok(shown)
 }
 
 /// Makes the test of a label, and shows what is found of it.
@@ -236,44 +252,25 @@ fn show_selected<H: Host>(
         (world (H.state host.old) out) (world (H.state host.new) out) result }
 {
     let made = made_of(alloc, label, &isa)?;
-    show_made(alloc, host, work, isa, label, made, counts)
-}
-
-fn show_made<H: Host>(
-    alloc: Global,
-    host: &mut H,
-    work: &Text,
-    isa: IsaSpec,
-    label: &Label,
-    made: Made,
-    counts: &[u64],
-) -> Result<ShownLabel, Stop>
-    requires made { IsMade isa (label_view label.now) made }
-    requires testable { IsTestable isa (label_view label.now) }
-    ensures { (out : SinkState) → MeetsWith IsAnswer (shows_by isa work.now counts.now
-        (label_view label.now) (text_of_label isa (label_view label.now)))
-        (world (H.state host.old) out) (world (H.state host.new) out) result }
-{
     let Made {
         text,
         claims,
+        unsolved,
         steps,
-        ..
     } = made;
+    release(unsolved);
     match text {
-        None => show_untested(alloc, label, claims.as_slice(), counts),
+        None => {
+            let shown = show_untested(alloc, label, claims.as_slice(), counts);
+            release(claims);
+            shown
+        },
         Some(text) => {
             let test = test_of(alloc, label, text, steps)?;
-            show_test(
-                alloc,
-                host,
-                work,
-                isa,
-                label,
-                claims.as_slice(),
-                &test,
-                counts,
-            )
+            let told = claims.as_slice();
+            let shown = show_test(alloc, host, work, isa, label, told, &test, counts);
+            release(claims);
+            shown
         },
     }
 }
@@ -289,8 +286,9 @@ fn show_untested(
         counts.now claims.now (label_view label.now))) w w result }
 {
     let found = found_open(alloc, State::NoTest);
-    let shown = shown_label(alloc, label, claims, b"", &found, counts)?;
-    Ok(shown)
+    let shown = shown_label(alloc, label, claims, b"", &found, counts);
+    release(found);
+    Ok(shown?)
 }
 
 fn test_of(alloc: Global, label: &Label, text: Text, steps: u64) -> Result<Test, NoMemory>
@@ -319,6 +317,7 @@ fn show_test<H: Host>(
 {
     let found = find_test(alloc, host, isa, work, test)?;
     let text = test.text.as_str().as_bytes();
-    let shown = shown_label(alloc, label, claims, text, &found, counts)?;
-    Ok(shown)
+    let shown = shown_label(alloc, label, claims, text, &found, counts);
+    release(found);
+    Ok(shown?)
 }

@@ -2,14 +2,15 @@
 ghost use Rattle.std.specs.Prelude.{◌≡◌, ◌≤◌, Some, IfOk, length};
 ghost use Rattle.rvs_base.specs.Sink.{SinkState};
 ghost use Rattle.rvs_plan.specs.World.{world, IsAnswer};
+ghost use Rattle.rvs_plan.specs.Plan.{◌>>=◌ as followed};
 ghost use Rattle.rvs_plan.specs.Meets.{MeetsWith};
 ghost use Rattle.rvs_sig.specs.Verdicts.{verdict_of};
 ghost use Rattle.rvs_reference.specs.TestRun.{NamesText};
 ghost use Rattle.rvs_generate.specs.Tests.{IsRunnable};
-ghost use Rattle.rvs_report.specs.Findings.{likeness, asks_like, found_open, compared};
+ghost use Rattle.rvs_report.specs.Findings.{likeness, asks_like, if_like, found_open, compared};
 ghost use Rattle.rvs_report.specs.Findings.{judged_left, finds_signature, finds_words, finds_test};
 
-use rvs_base::{Bytes, FileRefusal, Host, Items, NoMemory, Text, read_file};
+use rvs_base::{FileRefusal, Host, Items, NoMemory, Text, read_file, release};
 use rvs_device::SIGNATURE_LIMIT;
 use rvs_fault::Fault;
 use rvs_generate::{Test, TestFiles, reference_of};
@@ -55,11 +56,25 @@ fn read_like<H: Host>(
 {
     let file = owned(alloc, name.as_str())?;
     match read_file(alloc, host, name.as_str(), expected.len() as u64) {
-        Ok(bytes) => Ok(like(bytes.as_slice(), expected)),
-        Err(FileRefusal::NoFile) => Ok(Likeness::Absent),
-        Err(FileRefusal::TooLong { .. }) => Ok(Likeness::Other),
+        Ok(bytes) => {
+            let found = like(bytes.as_slice(), expected);
+            release(bytes);
+            release(file);
+            Ok(found)
+        },
+        Err(FileRefusal::NoFile) => {
+            release(file);
+            Ok(Likeness::Absent)
+        },
+        Err(FileRefusal::TooLong { .. }) => {
+            release(file);
+            Ok(Likeness::Other)
+        },
         Err(FileRefusal::Failed) => Err(Stop::CannotRead(file)),
-        Err(FileRefusal::NoMemory) => Err(Stop::NoMemory),
+        Err(FileRefusal::NoMemory) => {
+            release(file);
+            Err(Stop::NoMemory)
+        },
     }
 }
 
@@ -90,10 +105,29 @@ pub fn find_test<H: Host>(
         (world (H.state host.old) out) (world (H.state host.new) out) result }
 {
     let files = TestFiles::new(alloc, work, &test.name)?;
+    let found = find_left(alloc, host, isa, &files, test);
+    release(files);
+    found
+}
+
+fn find_left<H: Host>(
+    alloc: Global,
+    host: &mut H,
+    isa: IsaSpec,
+    files: &TestFiles,
+    test: &Test,
+) -> Result<Found, Stop>
+    requires runs { IsRunnable isa test.now }
+    requires text { NamesText files.now.test }
+    ensures { (out : SinkState) → MeetsWith IsAnswer
+        (followed (asks_like files.now.test test.now.text)
+        (λ like. if_like like (finds_words files.now isa test.now)))
+        (world (H.state host.old) out) (world (H.state host.new) out) result }
+{
     match read_like(alloc, host, &files.test, test.text.as_str().as_bytes())? {
         Likeness::Absent => Ok(found_open(alloc, State::NotRun)),
         Likeness::Other => Ok(found_open(alloc, State::OtherTest)),
-        Likeness::Same => find_words(alloc, host, isa, &files, test),
+        Likeness::Same => find_words(alloc, host, isa, files, test),
     }
 }
 
@@ -111,9 +145,17 @@ fn find_words<H: Host>(
 {
     let words = reference_of(alloc, isa, &files.test, test)?;
     let text = print_words(alloc, words.as_slice())?;
-    match read_like(alloc, host, &files.reference, text.as_str().as_bytes())? {
-        Likeness::Absent => Ok(found_open(alloc, State::NotRun)),
-        Likeness::Other => Ok(found_open(alloc, State::OtherTest)),
+    let read = read_like(alloc, host, &files.reference, text.as_str().as_bytes());
+    release(text);
+    match read? {
+        Likeness::Absent => {
+            release(words);
+            Ok(found_open(alloc, State::NotRun))
+        },
+        Likeness::Other => {
+            release(words);
+            Ok(found_open(alloc, State::OtherTest))
+        },
         Likeness::Same => find_signature(alloc, host, &files.device, words),
     }
 }
@@ -130,27 +172,55 @@ fn find_signature<H: Host>(
 {
     let file = owned(alloc, name.as_str())?;
     match read_file(alloc, host, name.as_str(), SIGNATURE_LIMIT) {
-        Ok(bytes) => Ok(judge_left(alloc, words, bytes)?),
-        Err(FileRefusal::NoFile) => Ok(found_open(alloc, State::NoSignature)),
-        Err(FileRefusal::TooLong { .. }) => Ok(found_open(alloc, State::TooLong)),
-        Err(FileRefusal::Failed) => Err(Stop::CannotRead(file)),
-        Err(FileRefusal::NoMemory) => Err(Stop::NoMemory),
+        Ok(bytes) => {
+            release(file);
+            let judged = judge_left(alloc, words, bytes.as_slice());
+            release(bytes);
+            Ok(judged?)
+        },
+        Err(FileRefusal::NoFile) => {
+            release(file);
+            release(words);
+            Ok(found_open(alloc, State::NoSignature))
+        },
+        Err(FileRefusal::TooLong { .. }) => {
+            release(file);
+            release(words);
+            Ok(found_open(alloc, State::TooLong))
+        },
+        Err(FileRefusal::Failed) => {
+            release(words);
+            Err(Stop::CannotRead(file))
+        },
+        Err(FileRefusal::NoMemory) => {
+            release(file);
+            release(words);
+            Err(Stop::NoMemory)
+        },
     }
 }
 
-fn judge_left(alloc: Global, words: Items<u32>, bytes: Bytes) -> Result<Found, NoMemory>
-    ensures { IfOk result (λ found. found ≡ judged_left words bytes) }
+fn judge_left(alloc: Global, words: Items<u32>, bytes: &[u8]) -> Result<Found, NoMemory>
+    ensures { IfOk result (λ found. found ≡ judged_left words bytes.now) }
 {
-    if bytes.as_slice().is_empty() && !words.as_slice().is_empty() {
+    if bytes.is_empty() && !words.as_slice().is_empty() {
+        release(words);
         return Ok(found_open(alloc, State::NoSignature));
     }
-    match read_words(alloc, bytes.as_slice()) {
+    match read_words(alloc, bytes) {
         Ok(device) => Ok(compared(alloc, device, words)),
         Err(Fault::Refused(SigRefusal::BadLine { line })) => {
+            release(words);
             Ok(found_open(alloc, State::BadLine { line }))
         },
-        Err(Fault::Refused(SigRefusal::TooLong)) => Ok(found_open(alloc, State::TooLong)),
-        Err(Fault::NoMemory) => Err(NoMemory),
+        Err(Fault::Refused(SigRefusal::TooLong)) => {
+            release(words);
+            Ok(found_open(alloc, State::TooLong))
+        },
+        Err(Fault::NoMemory) => {
+            release(words);
+            Err(NoMemory)
+        },
     }
 }
 

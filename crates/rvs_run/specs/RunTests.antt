@@ -173,11 +173,16 @@ tallies tests passed = do
 abbrev pub judges_tests : Bench → List Source → Plan Finish
 judges_tests bench sources = judges_all bench 0 sources >>= tallies (length sources)
 
+-- what is said of tests is put, and then they are judged
+abbrev pub judges_gathered : Bench → List ℕ → List Source → Plan Finish
+judges_gathered bench text tests = do
+  _ ← prints text
+  judges_tests bench tests
+
 -- what `generate` says of the labels is put, and then their tests are judged
 abbrev pub runs_tests : Bench → List Label → Plan Finish
-runs_tests bench groups = do
-  _ ← prints (listing bench.isa groups)
-  judges_tests bench (held (tests_of bench.isa groups))
+runs_tests bench groups =
+    judges_gathered bench (listing bench.isa groups) (held (tests_of bench.isa groups))
 
 -- a core, groups, and a device
 pub record RunInputs : Type 0 where

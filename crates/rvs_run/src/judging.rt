@@ -14,11 +14,12 @@ ghost use Rattle.rvs_reference.specs.TestRun.{Accepts};
 ghost use Rattle.rvs_generate.specs.Tests.{IsReady, IsRunnable};
 ghost use Rattle.rvs_run.specs.RunTests.{if_asked, made_for, made_found, makes, writes_held};
 ghost use Rattle.rvs_run.specs.RunTests.{writes_executable, judges_by, judges_words, judges_made};
-ghost use Rattle.rvs_run.specs.RunTests.{passes, announces, judges_one};
-ghost use Rattle.rvs_run.specs.RunView.{bench_view};
+ghost use Rattle.rvs_run.specs.RunTests.{passes, announces, announces_made, judges_one};
+ghost use Rattle.rvs_run.specs.RunView.{bench_view, made_with};
+ghost use Rattle.rvs_fault.specs.Answers.{seen};
 ghost use Rattle.rvs_generate.specs.declared.sources.Source.TheVariants.{Read};
 
-use rvs_base::{Bytes, Host, Items, NoMemory, Sink, Text};
+use rvs_base::{Bytes, Host, Items, NoMemory, Sink, Text, beside, release};
 use rvs_device::{Device, Filling, JudgeFault, TestVerdict, judge, verdict_line};
 use rvs_elf::write_elf;
 use rvs_generate::{Given, Source, Test, TestFiles, name_of};
@@ -51,6 +52,13 @@ pub struct Made {
     pub words: Items<u32>,
 }
 
+/// The same without the files.
+#[derive(Drop)]
+struct Found {
+    executable: Option<Bytes>,
+    words: Items<u32>,
+}
+
 /// Judges a test, puts the verdict, and says whether it passes.
 pub fn judge_one<H: Host, O: Sink>(
     alloc: Global,
@@ -65,7 +73,25 @@ pub fn judge_one<H: Host, O: Sink>(
         (world (H.state host.new) (O.state out.new)) result }
 {
     let made = make_test(alloc, host, bench, source)?;
-    let verdict = judge_made(alloc, host, bench, source, &made)?;
+    let ended = announce_made(alloc, host, out, bench, source, &made);
+    release(made);
+    ended
+}
+
+/// Judges a test of which this came, puts the verdict, and says whether it passes.
+fn announce_made<H: Host, O: Sink>(
+    alloc: Global,
+    host: &mut H,
+    out: &mut O,
+    bench: &Bench,
+    source: &Source,
+    made: &Made,
+) -> Result<bool, Stop>
+    ensures { MeetsWith IsAnswer (announces_made (bench_view bench.now) source.now made.now)
+        (world (H.state host.old) (O.state out.old))
+        (world (H.state host.new) (O.state out.new)) result }
+{
+    let verdict = judge_made(alloc, host, bench, source, made)?;
     print_verdict(alloc, name_of(source), &verdict, out)
 }
 
@@ -114,12 +140,26 @@ fn make_given<H: Host>(
 fn made_found(alloc: Global, bench: &Bench, files: TestFiles, bytes: &[u8]) -> Result<Made, Stop>
     ensures { Accepts (made_found (bench_view bench.now) files bytes.now) result }
 {
-    let image = image_of(alloc, bench.isa, files.test.as_str(), bytes)?;
-    let executable = executable_of(alloc, &bench.device, &image)?;
-    let limit = limit_of(None, files.test.as_str(), bytes);
-    let run = run_image(alloc, files.test.as_str(), limit, bench.isa, image)?;
+    let (found, files) = beside(found_of(alloc, bench, &files, bytes), files)?;
+    let Found { executable, words } = found;
     Ok(Made {
         files,
+        executable,
+        words,
+    })
+}
+
+/// What comes of a test with these files and bytes, beside the files.
+fn found_of(alloc: Global, bench: &Bench, files: &TestFiles, bytes: &[u8]) -> Result<Found, Stop>
+    ensures { Accepts (made_found (bench_view bench.now) files.now bytes.now)
+        (seen (made_with files.now) result) }
+{
+    let image = image_of(alloc, bench.isa, files.test.as_str(), bytes)?;
+    let (executable, image) = beside(executable_of(alloc, &bench.device, &image), image)?;
+    let limit = limit_of(None, files.test.as_str(), bytes);
+    let name = files.test.as_str();
+    let (run, executable) = beside(run_image(alloc, name, limit, bench.isa, image), executable)?;
+    Ok(Found {
         executable,
         words: run.words,
     })

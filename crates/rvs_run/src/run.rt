@@ -10,13 +10,13 @@ ghost use Rattle.rvs_inputs.specs.GroupsView.{inputs_view};
 ghost use Rattle.rvs_generate.specs.Testable.{IsTestableIfSelected};
 ghost use Rattle.rvs_generate.specs.Tests.{IsReady};
 ghost use Rattle.rvs_run.specs.RunTests.{tally_line, with_one, judges_all, verdict_of_all};
-ghost use Rattle.rvs_run.specs.RunTests.{tallies, judges_tests, run, runs_over};
+ghost use Rattle.rvs_run.specs.RunTests.{tallies, judges_tests, judges_gathered, run, runs_over};
 ghost use Rattle.rvs_run.specs.RunView.{bench_view};
 
 use crate::judging::{Bench, judge_one};
-use rvs_base::{Host, NoMemory, Sink, Text};
+use rvs_base::{Host, NoMemory, Sink, Text, beside, release};
 use rvs_device::Device;
-use rvs_generate::{Source, gather_tests, read_labels};
+use rvs_generate::{Gathered, Source, gather_tests, read_labels};
 use rvs_inputs::{Inputs, read_device_file, release_inputs};
 use rvs_insn::IsaSpec;
 use rvs_plan::{Finish, Stop, print};
@@ -67,10 +67,31 @@ fn run_over<H: Host, O: Sink>(
         (world (H.state host.new) (O.state out.new)) result }
 {
     let device = read_device_file(alloc, host, &asked.device)?;
-    let gathered = gather_tests(alloc, inputs)?;
-    let bench = bench_of(alloc, &asked.program, &asked.work, device, inputs.isa)?;
+    let (gathered, device) = beside(gather_tests(alloc, inputs), device)?;
+    let bench = bench_of(alloc, &asked.program, &asked.work, device, inputs.isa);
+    let (bench, gathered) = beside(bench, gathered)?;
+    let ended = judge_gathered(alloc, host, out, &bench, &gathered);
+    release(gathered);
+    release(bench);
+    ended
+}
+
+/// Puts what is said of tests, and judges them.
+fn judge_gathered<H: Host, O: Sink>(
+    alloc: Global,
+    host: &mut H,
+    out: &mut O,
+    bench: &Bench,
+    gathered: &Gathered,
+) -> Result<Finish, Stop>
+    requires { All (IsReady bench.now.isa) gathered.now.tests }
+    ensures { MeetsWith IsAnswer
+        (judges_gathered (bench_view bench.now) gathered.now.text gathered.now.tests)
+        (world (H.state host.old) (O.state out.old))
+        (world (H.state host.new) (O.state out.new)) result }
+{
     print(out, gathered.text.as_str().as_bytes())?;
-    judge_tests(alloc, host, out, &bench, gathered.tests.as_slice())
+    judge_tests(alloc, host, out, bench, gathered.tests.as_slice())
 }
 
 /// What tests are judged with, for this name of the program and this folder.

@@ -6,7 +6,7 @@ ghost use Rattle.rvs_generate.specs.Tests.{to_read};
 ghost use Rattle.rvs_run.specs.RunDatabase.{chosen, chosen_one, run_database};
 
 use crate::run::{bench_of, judge_tests};
-use rvs_base::{Host, Items, NoMemory, Sink};
+use rvs_base::{Host, Items, NoMemory, Sink, beside, release};
 use rvs_generate::{Given, Source};
 use rvs_inputs::{read_device_file, read_isa, read_marked};
 use rvs_plan::{Finish, Stop};
@@ -34,11 +34,18 @@ pub fn run_selected<H: Host, O: Sink>(
 {
     let said = read_isa(alloc, host, &asked.isa)?;
     let isa = said.spec;
+    release(said);
     let database = read_marked(alloc, host, &isa, &asked.database, &asked.part)?;
-    let device = read_device_file(alloc, host, &asked.device)?;
-    let bench = bench_of(alloc, &asked.program, &asked.work, device, isa)?;
-    let sources = choose(alloc, database.as_slice())?;
-    judge_tests(alloc, host, out, &bench, sources.as_slice())
+    let (device, database) = beside(read_device_file(alloc, host, &asked.device), database)?;
+    let bench = bench_of(alloc, &asked.program, &asked.work, device, isa);
+    let (bench, database) = beside(bench, database)?;
+    let sources = choose(alloc, database.as_slice());
+    release(database);
+    let (sources, bench) = beside(sources, bench)?;
+    let ended = judge_tests(alloc, host, out, &bench, sources.as_slice());
+    release(sources);
+    release(bench);
+    ended
 }
 
 /// The selected tests, with their places.

@@ -6,7 +6,7 @@ use Rattle.rvs_base.specs.Host.{Files, Tells}
 use Rattle.rvs_base.specs.Faults.{raised}
 use Rattle.rvs_base.specs.Sink.{SinkState, appended}
 use Rattle.rvs_base.specs.declared.host.DeviceRun.{DeviceRun}
-use Rattle.rvs_plan.specs.World.{World, Contents, contents}
+use Rattle.rvs_plan.specs.World.{World, Contents, contents, IsAnswer}
 use Rattle.rvs_plan.specs.Account.{line_of, status_of, NoneRose, LosesSink}
 use Rattle.rvs_plan.specs.Effect.{Answer, Effect, after, Saw}
 use Rattle.rvs_plan.specs.Meets.{Completes, Halts, HasCause}
@@ -19,9 +19,9 @@ use Rattle.rvs_plan.specs.declared.status.Finish.TheVariants as finish
 use Rattle.rvs_plan.specs.declared.status.Status.TheVariants as answer
 use Rattle.rvs_machine.specs.Image.{ImageValue}
 use Rattle.rvs_device.proofs.Passing as passing
-use Rattle.rvs_suite.specs.Answered.{HasLeft}
+use Rattle.rvs_promises.specs.Answered.{HasLeft}
 use Rattle.rvs_device.specs.Judging.{Spells}
-use Rattle.rvs_suite.specs.Call.{Call, world_of, NothingFailed, AnswersOnly}
+use Rattle.rvs_promises.specs.Call.{Call, world_of, NothingFailed, AnswersOnly}
 use Rattle.rvs_inputs.specs.GroupFiles.{and_then}
 use Rattle.rvs_suite.specs.Judging.{HasJudged}
 use Rattle.rvs_suite.specs.JudgingDatabase.{database_inputs_in, chosen_in, HasJudgedChosen}
@@ -37,21 +37,21 @@ use Rattle.rvs_run.specs.declared.judging.Made.{Made}
 use Rattle.rvs_generate.specs.declared.sources.Given.{Given}
 use Rattle.rvs_generate.specs.declared.sources.Source.TheVariants.{Read}
 use Rattle.rvs_reference.specs.declared.test_run.Run.{Run}
-use Rattle.rvs_suite.proofs.Answered.{RunsOn, ran-command}
+use Rattle.rvs_promises.proofs.Answered.{RunsOn}
 use Rattle.rvs_suite.proofs.DatabaseExecutables.{all-there, apart-chosen, low-chosen, room-there}
 use Rattle.rvs_suite.proofs.DatabasePasses.{never-stopped-at, done-or-memory}
 use Rattle.rvs_suite.proofs.DatabaseReads.{finds-database-inputs}
-use Rattle.rvs_suite.proofs.Ends.{means-end, was_refused, was_missing}
+use Rattle.rvs_promises.proofs.Ends.{means-end, was_refused, was_missing}
 use Rattle.rvs_inputs.proofs.Finding.{Behind, behind, end-found}
 use Rattle.rvs_suite.proofs.KeptTrials.{was-made}
 use Rattle.rvs_suite.proofs.Passed.{never-failed}
-use Rattle.rvs_suite.proofs.RunSteps.{contents_of}
-use Rattle.rvs_suite.proofs.Running.{at_status, asked_means}
+use Rattle.rvs_promises.proofs.RunSteps.{contents_of}
+use Rattle.rvs_promises.proofs.Running.{at_status}
+use Rattle.rvs_promises.proofs.Running.{answered as ran_answered}
 use Rattle.rvs_suite.proofs.SparingTests.{database-spares}
-use Rattle.rvs_suite.proofs.StepLimits.{usual_limits_are_low}
+use Rattle.rvs_promises.proofs.StepLimits.{usual_limits_are_low}
 use Rattle.rvs_suite.proofs.Trials.{TriedAll, EndedAt, tried-all, after_trials, told-runs}
 use Rattle.rvs_suite.proofs.Trials.{tried-now, tallied, has-judged}
-use Rattle.rvs_words.specs.declared.command.Command.TheVariants.{RunDatabase}
 use Rattle.rvs_words.specs.declared.command.RunDatabaseArguments.{RunDatabaseArguments}
 
 -- ---- what is left
@@ -207,7 +207,7 @@ unlost plan old new err err' none lost = elim lost.failed [
 
 -- its words are a command
 unused : {call : Call} (files : Files) (asked : RunDatabaseArguments) (inputs : DatabaseInputs)
-    (given : Given) (made : Made) → RunsOn call files (RunDatabase asked)
+    (given : Given) (made : Made) → RunsOn call files IsAnswer (run_database asked)
     → database_inputs_in files asked ≡ Ok inputs → chosen_in inputs ≡ given ∷ []
     → made_in files (database_bench asked.program asked.work inputs) (Read given) ≡ Ok made
     → (reason : Stop) → answer.Usage ≡ status_of reason
@@ -227,7 +227,7 @@ unused files asked inputs given made r is one accepted why.NoMemory named halts 
 unused files asked inputs given made r is one accepted why.SinkFault named halts line = cc
 
 alone : {call : Call} (files : Files) (asked : RunDatabaseArguments)
-    → RunsOn call files (RunDatabase asked)
+    → RunsOn call files IsAnswer (run_database asked)
     → (inputs : DatabaseInputs) (given : Given) (made : Made) (before : List DeviceRun)
     (run : DeviceRun) → database_inputs_in files asked ≡ Ok inputs
     → chosen_in inputs ≡ given ∷ []
@@ -240,34 +240,34 @@ alone {call} files asked r inputs given made before run is one accepted old new 
     let now = world_of call.new in
     let plan = run_database asked in
     let bench = database_bench asked.program asked.work inputs in
-    let at = at_status (ran-command r) files (RunDatabase asked) in
+    let at = at_status r.ran files in
     let never = unstopped {call = call} files asked.program asked.work in
     done-or-memory call.status
     (λ failed. never-failed {call = call} bench files (Read given) [] made before run accepted old
     new spells (subst (λ (gs : List Given). HasJudged call bench files (to_read gs) []
     finish.NotPassed) one (given-left {call = call} files asked inputs finish.NotPassed is
     (left call files asked (Ok finish.NotPassed) r.told
-    (at answer.NotPassed r.told refl failed).completes))))
-    (λ usage. let said = at answer.Usage r.told refl usage in
+    (at answer.NotPassed r.told failed).completes))))
+    (λ usage. let said = at answer.Usage r.told usage in
     unused {call = call} files asked inputs given made r is one accepted said.reason
     said.status_is said.halts said.line)
     (λ refused. let said = was_refused plan was now call.old.err call.new.err
-    (at answer.Refused r.told refl refused) in
+    (at answer.Refused r.told refused) in
     never (why.Refused said.text) inputs given made (database_inputs_in files asked) is one accepted
     (left call files asked (Err (why.Refused said.text)) r.told said.completes said.line))
     (λ fault. elim (was_missing plan was now call.old.err call.new.err
-    (at answer.HostFault r.told refl fault)) [
+    (at answer.HostFault r.told fault)) [
       | inl said ↦ never (why.NoFile said.name) inputs given made (database_inputs_in files asked)
           is one accepted
           (left call files asked (Err (why.NoFile said.name)) r.told said.completes said.line)
       | inr rose ↦ none.host rose
     ])
     (λ lost. unlost plan was now call.old.err call.new.err none
-    (at answer.SinkFault r.told refl lost))
+    (at answer.SinkFault r.told lost))
 
 -- ---- executables
 executables : {call : Call} (files : Files) (asked : RunDatabaseArguments)
-    → RunsOn call files (RunDatabase asked) → (inputs : DatabaseInputs) (given : Given)
+    → RunsOn call files IsAnswer (run_database asked) → (inputs : DatabaseInputs) (given : Given)
     (files' : Files) → database_inputs_in files asked ≡ Ok inputs
     → Contains (chosen_in inputs) given
     → IsTrue (asks_elf (database_bench asked.program asked.work inputs))
@@ -278,11 +278,11 @@ executables {call} files asked r inputs given files' is there wanted ended told 
     elim ended [
       | inl done ↦ by finish.Done
           (left call files asked (Ok finish.Done) r.told
-          (at_status (ran-command r) files (RunDatabase asked) answer.Done r.told refl
+          (at_status r.ran files answer.Done r.told
           done).completes)
       | inr failed ↦ by finish.NotPassed
           (left call files asked (Ok finish.NotPassed) r.told
-          (at_status (ran-command r) files (RunDatabase asked) answer.NotPassed r.told refl
+          (at_status r.ran files answer.NotPassed r.told
           failed).completes)
     ]
   where
@@ -302,21 +302,19 @@ executables {call} files asked r inputs given files' is there wanted ended told 
 
 -- ---- the promise
 pub judges_database : {call : Call} (files : Files) (asked : RunDatabaseArguments)
-    → RunsOn call files (RunDatabase asked) → RunsDatabase call files asked
+    → RunsOn call files IsAnswer (run_database asked) → RunsDatabase call files asked
 judges_database {call} files asked r =
     let old = world_of call.old in
     let new = world_of call.new in
-    let command = RunDatabase asked in
     let plan = run_database asked in
-    let ran = ran-command r in
     record {
       done = λ is. left call files asked (Ok finish.Done) r.told
-          (at_status ran files command answer.Done r.told refl is).completes;
+          (at_status r.ran files answer.Done r.told is).completes;
       not_passed = λ is. left call files asked (Ok finish.NotPassed) r.told
-          (at_status ran files command answer.NotPassed r.told refl is).completes;
+          (at_status r.ran files answer.NotPassed r.told is).completes;
       refused = λ is.
           let was = was_refused plan old new call.old.err call.new.err
-          (at_status ran files command answer.Refused r.told refl is) in
+          (at_status r.ran files answer.Refused r.told is) in
           elim (left call files asked (Err (why.Refused was.text)) r.told was.completes
           was.line) [
             | inl kept ↦ inl (
@@ -326,7 +324,7 @@ judges_database {call} files asked r =
             | inr at ↦ inr (record { text = was.text; at = at })
           ];
       absent = λ is. elim (was_missing plan old new call.old.err call.new.err
-          (at_status ran files command answer.HostFault r.told refl is)) [
+          (at_status r.ran files answer.HostFault r.told is)) [
             | inl was ↦ elim (left call files asked (Err (why.NoFile was.name)) r.told
                 was.completes was.line) [
                   | inl kept ↦ inl (
@@ -337,12 +335,12 @@ judges_database {call} files asked r =
                 ]
             | inr rose ↦ inr (inr rose)
           ];
-      by_refusal = λ text given none. elim (asked_means ran files command r.told refl none) [
+      by_refusal = λ text given none. elim (ran_answered r.ran files r.told none) [
         | inl m ↦ inl (means-end plan files call.status (Err (why.Refused text)) m
             (stops files asked (why.Refused text) given))
         | inr no_memory ↦ inr no_memory
       ];
-      by_absence = λ name given none. elim (asked_means ran files command r.told refl none) [
+      by_absence = λ name given none. elim (ran_answered r.ran files r.told none) [
         | inl m ↦ inl (means-end plan files call.status (Err (why.NoFile name)) m
             (stops files asked (why.NoFile name) given))
         | inr no_memory ↦ inr no_memory
@@ -352,5 +350,5 @@ judges_database {call} files asked r =
       passes = λ bench t. passing.passes (task_on bench t.made) t.run.status t.run.after;
       executables = executables files asked r;
       alone = alone files asked r;
-      others_kept = λ files' other. database-spares r.ran files files' asked other r.told r.asks;
+      others_kept = λ files' other. database-spares asked r.ran files files' other r.told;
     }

@@ -29,11 +29,11 @@ use Rattle.rvs_generate.specs.TestFiles.{files_at}
 use Rattle.rvs_generate.specs.Tests.{to_read}
 use Rattle.rvs_generate.specs.declared.sources.Given.{Given}
 use Rattle.rvs_generate.specs.declared.sources.Source.TheVariants.{Read}
-use Rattle.rvs_suite.proofs.DatabaseReads.{holds-tests}
+use Rattle.rvs_promises.proofs.SelectionReads.{holds-tests}
 use Rattle.rvs_suite.proofs.Executables.{there-executable}
-use Rattle.rvs_suite.proofs.FoundImages.{sound}
+use Rattle.rvs_promises.proofs.FoundImages.{sound}
 use Rattle.rvs_suite.proofs.KeptTrials.{WasMade, was-made, kept-trials}
-use Rattle.rvs_suite.proofs.Meanings.{then-ok, says-of}
+use Rattle.rvs_promises.proofs.Meanings.{then-ok, says-of}
 use Rattle.rvs_isa.proofs.Rooms.{accepted_have_room}
 use Rattle.rvs_generate.proofs.Paths.{same-ending, passed-by, other-bytes, reference-not-executable}
 use Rattle.rvs_generate.proofs.Paths.{device-not-executable}

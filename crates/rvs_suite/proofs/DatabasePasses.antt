@@ -5,7 +5,7 @@ use Rattle.rvs_base.specs.Host.{Files}
 use Rattle.rvs_plan.specs.declared.stop.Stop.{Stop}
 use Rattle.rvs_plan.specs.declared.status.Status.{Status}
 use Rattle.rvs_plan.specs.declared.status.Status.TheVariants as answer
-use Rattle.rvs_suite.specs.Call.{Call}
+use Rattle.rvs_promises.specs.Call.{Call}
 use Rattle.rvs_suite.specs.JudgingDatabase.{chosen_in, HasStopped}
 use Rattle.rvs_run.specs.RunDatabase.{DatabaseInputs, database_bench}
 use Rattle.rvs_suite.specs.RunLeft.{made_in, Trial, with_trials, AreTrialsOf}

@@ -22,7 +22,7 @@ use Rattle.rvs_generate.specs.declared.sources.Source.{Source}
 use Rattle.rvs_generate.specs.declared.sources.Source.TheVariants.{Held, Read}
 use Rattle.rvs_reference.specs.declared.test_run.Run.{Run}
 use Rattle.rvs_suite.proofs.Executables.{kept-executable}
-use Rattle.rvs_suite.proofs.Meanings.{then-ok, found-of}
+use Rattle.rvs_promises.proofs.Meanings.{then-ok, found-of}
 use Rattle.rvs_generate.proofs.Paths.{passed-by, other-bytes}
 
 -- a file that is none of those that are written for a test

@@ -15,7 +15,7 @@ use Rattle.rvs_device.specs.declared.verdicts.TestVerdict.{TestVerdict}
 use Rattle.rvs_device.specs.declared.verdicts.TestVerdict.TheVariants.{Pass, NoSignature, TooLong}
 use Rattle.rvs_device.specs.declared.verdicts.TestVerdict.TheVariants.{BadSignature, Differs}
 use Rattle.rvs_device.specs.declared.verdicts.TestVerdict.TheVariants.{Lengths}
-use Rattle.rvs_suite.specs.Call.{Call}
+use Rattle.rvs_promises.specs.Call.{Call}
 use Rattle.rvs_suite.specs.Judging.{HasJudged}
 use Rattle.rvs_suite.specs.RunLeft.{made_in, Trial, with_trial, AreTrialsOf, task_on}
 use Rattle.rvs_suite.specs.RunLeft.{trial_verdict, trials_passed, runs_of, HasSpelled, AreJudged}

@@ -1,32 +1,32 @@
 -- What every call of `report` promises.
 use Rattle.std.proofs.Common.{◌≡◌, inr, Some, Ok, refl, sym, ap, ◌∙◌}
 use Rattle.rvs_base.specs.Host.{Files}
-use Rattle.rvs_plan.specs.World.{Contents}
+use Rattle.rvs_plan.specs.World.{Contents, IsAnswer}
 use Rattle.rvs_page.specs.Shown.{verdict_of}
-use Rattle.rvs_suite.specs.Call.{Call}
-use Rattle.rvs_suite.specs.Answered.{Answered}
+use Rattle.rvs_promises.specs.Call.{Call}
+use Rattle.rvs_promises.specs.Answered.{Answered}
 use Rattle.rvs_coverage.specs.Coverage.{uncounted, counts_more, file_name}
 use Rattle.rvs_inputs.specs.DeviceInput.{device_in}
 use Rattle.rvs_inputs.specs.GroupFiles.{Inputs, and_then, inputs_in}
 use Rattle.rvs_generate.specs.TestedInputs.{tested_in}
 use Rattle.rvs_coverage.specs.LogReport.{logs_in}
-use Rattle.rvs_suite.specs.Rooms.{AsksForRoom}
+use Rattle.rvs_promises.specs.Rooms.{AsksForRoom}
 use Rattle.rvs_report.specs.Report.{end_by, page_with, all_shown_in, page_in, finds_page, puts_page}
 use Rattle.rvs_report.specs.Report.{report}
 use Rattle.rvs_suite.specs.Reporting as reporting
-use Rattle.rvs_suite.proofs.Answered.{Works, RunsOn, answered, ran-command}
-use Rattle.rvs_suite.proofs.RoomEnds.{asks, asked-room, asked-then}
-use Rattle.rvs_suite.proofs.Tested.{good-inputs, placed-inputs}
-use Rattle.rvs_suite.proofs.Untouched.{untouched}
+use Rattle.rvs_promises.proofs.Answered.{Works, RunsOn, answered}
+use Rattle.rvs_promises.proofs.RoomEnds.{asks, asked-room, asked-then}
+use Rattle.rvs_promises.proofs.Tested.{good-inputs, placed-inputs}
+use Rattle.rvs_promises.proofs.Untouched.{untouched}
+use Rattle.rvs_suite.proofs.Stopping.{stops-report}
 use Rattle.rvs_inputs.proofs.Keeping.{WritesNone, WritesNone-then, reads-none}
-use Rattle.rvs_suite.proofs.Running.{keeps}
+use Rattle.rvs_promises.proofs.Running.{keeps}
 use Rattle.rvs_suite.proofs.ReportReads.{reads-page, finds-page}
 use Rattle.rvs_suite.proofs.ReportPasses.{shown-passes, all-pass, found-apart}
-use Rattle.rvs_words.specs.declared.command.Command.TheVariants.{Report}
 use Rattle.rvs_words.specs.declared.command.ReportArguments.{ReportArguments}
 
 abbrev works : (files : Files) (asked : ReportArguments)
-    → Works (Report asked) files (page_in files asked)
+    → Works (report asked) files (page_in files asked)
 works files asked = record {
   inputs = finds_page asked;
   deeds = puts_page;
@@ -41,7 +41,7 @@ writes-report asked = WritesNone-then (finds_page asked) puts_page
     (reads-none (finds_page asked) (reads-page asked)) (λ page. tt)
 
 answers-report : {call : Call} (files : Files) (asked : ReportArguments)
-    → RunsOn call files (Report asked)
+    → RunsOn call files IsAnswer (report asked)
     → Answered call (page_in files asked) (reporting.HasShown call)
 answers-report {call} files asked r =
     answered (reporting.HasShown call) r (works files asked) (λ page left. record {
@@ -50,12 +50,12 @@ answers-report {call} files asked r =
     })
 
 kept : {call : Call} (files : Files) (asked : ReportArguments)
-    → RunsOn call files (Report asked) → call.new.host.files ≡ call.old.host.files
-kept files asked r = keeps r.ran files (Report asked) r.told r.asks (writes-report asked)
+    → RunsOn call files IsAnswer (report asked) → call.new.host.files ≡ call.old.host.files
+kept files asked r = keeps r.ran files r.told (writes-report asked)
 
 -- where there is no room for a test, it is refused
 rooms : {call : Call} (files : Files) (asked : ReportArguments)
-    → RunsOn call files (Report asked) → (inputs : Inputs)
+    → RunsOn call files IsAnswer (report asked) → (inputs : Inputs)
     → inputs_in files asked.isa asked.families asked.groups ≡ Ok inputs
     → AsksForRoom call files inputs
 rooms {call} files asked r inputs given =
@@ -70,14 +70,14 @@ rooms {call} files asked r inputs given =
     (all_shown_in files i.isa asked.work covered.counts i.groups)))))
     (asked-room inputs (inputs_in files asked.isa asked.families asked.groups) given))
     (answers-report files asked r)
-    (λ is. untouched (ran-command r) files r.told tt (inr is))
+    (λ is. untouched r.ran files r.told (stops-report asked) (inr is))
     (λ text refused files' other is.
     let both : Some files' ≡ Some files = sym is ∙ kept files asked r ∙ r.told.files in
     let same : files' ≡ files = cc in
     ap (λ (f : Files). f other) same)
 
 pub reports : {call : Call} (files : Files) (asked : ReportArguments)
-    → RunsOn call files (Report asked) → reporting.Reports call files asked
+    → RunsOn call files IsAnswer (report asked) → reporting.Reports call files asked
 reports {call} files asked r = record {
   answered = answers-report files asked r;
   passes = shown-passes files;

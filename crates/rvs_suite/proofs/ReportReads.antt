@@ -29,7 +29,7 @@ use Rattle.rvs_generate.specs.declared.gathering.Test.{Test}
 use Rattle.rvs_words.specs.declared.command.ReportArguments.{ReportArguments}
 use Rattle.rvs_inputs.proofs.Readers.{OnlyReads, OnlyReads-then}
 use Rattle.rvs_inputs.proofs.Finding.{Finds, finds-then}
-use Rattle.rvs_suite.proofs.TestedInputs.{reads-tested, finds-tested}
+use Rattle.rvs_promises.proofs.TestedInputs.{reads-tested, finds-tested}
 use Rattle.rvs_inputs.proofs.GroupInputs.{finds-and_then}
 use Rattle.rvs_coverage.proofs.LogReads.{reads-logs, finds-logs}
 use Rattle.rvs_suite.proofs.RunReads.{finds-device}

@@ -5,7 +5,7 @@ use Rattle.std.proofs.Common.{◌∙◌, Contains, IsTrue, arith, rules}
 use Rattle.rvs_base.specs.Host.{Files, Tells}
 use Rattle.rvs_base.specs.Sink.{appended}
 use Rattle.rvs_base.specs.declared.host.DeviceRun.{DeviceRun}
-use Rattle.rvs_plan.specs.World.{Contents, contents}
+use Rattle.rvs_plan.specs.World.{Contents, contents, IsAnswer}
 use Rattle.rvs_plan.specs.Effect.{Answer, Effect, Out, after, Saw}
 use Rattle.rvs_plan.specs.Plan.{Plan, Ends, Goes, followed}
 use Rattle.rvs_plan.specs.Performed.{end_of, ComesTo}
@@ -20,17 +20,17 @@ use Rattle.rvs_plan.specs.declared.status.Finish.{Finish}
 use Rattle.rvs_plan.specs.declared.status.Finish.TheVariants as finish
 use Rattle.rvs_cgf.specs.Groups.{Label}
 use Rattle.rvs_solver.specs.Solving.{IsSolvableAt}
-use Rattle.rvs_suite.specs.Call.{Call, world_of}
+use Rattle.rvs_promises.specs.Call.{Call, world_of}
 use Rattle.rvs_generate.specs.Generate.{path_of}
-use Rattle.rvs_suite.specs.Headline.{HasProvedTest}
-use Rattle.rvs_suite.specs.Answered.{HasLeft, Answered}
+use Rattle.rvs_promises.specs.Headline.{HasProvedTest}
+use Rattle.rvs_promises.specs.Answered.{HasLeft, Answered}
 use Rattle.rvs_generate.specs.GenerateTexts.{listing}
 use Rattle.rvs_run.specs.RunTests.{made_for, tallies, RunInputs, run_inputs, bench_of, runs, run}
 use Rattle.rvs_inputs.specs.DeviceInput.{device_in}
 use Rattle.rvs_inputs.specs.GroupFiles.{Inputs, and_then, inputs_in, parted_inputs}
 use Rattle.rvs_generate.specs.TestedInputs.{tested_in}
 use Rattle.rvs_generate.specs.TestedInputs.{labels_in}
-use Rattle.rvs_suite.specs.Rooms.{AsksForRoom}
+use Rattle.rvs_promises.specs.Rooms.{AsksForRoom}
 use Rattle.rvs_suite.specs.Signing.{IsSigned}
 use Rattle.rvs_suite.specs.Judging.{run_inputs_in, tests_in, HasJudged, HasJudgedTests}
 use Rattle.rvs_suite.specs.Judging.{HasTestFiles, Runs}
@@ -38,23 +38,25 @@ use Rattle.rvs_suite.specs.RunLeft.{HaveRun}
 use Rattle.rvs_generate.specs.Tests.{held}
 use Rattle.rvs_generate.specs.declared.gathering.Test.{Test}
 use Rattle.rvs_generate.specs.declared.sources.Source.TheVariants.{Held}
-use Rattle.rvs_words.specs.declared.command.Command.TheVariants.{Run}
-use Rattle.rvs_suite.proofs.Answered.{RunsOn, ran-command}
-use Rattle.rvs_suite.proofs.Ends.{means-end, was_refused, was_missing}
+use Rattle.rvs_promises.proofs.Answered.{RunsOn}
+use Rattle.rvs_promises.proofs.Ends.{means-end, was_refused, was_missing}
 use Rattle.rvs_inputs.proofs.Finding.{Behind, behind, end-found}
-use Rattle.rvs_suite.proofs.Running.{at_status, asked_means}
+use Rattle.rvs_promises.proofs.Running.{at_status}
+use Rattle.rvs_promises.proofs.Running.{answered as ran_answered}
 use Rattle.rvs_suite.proofs.RunReads.{finds-run}
-use Rattle.rvs_suite.proofs.RunSteps.{did-step, contents_of, appended-twice}
+use Rattle.rvs_promises.proofs.RunSteps.{did-step, contents_of, appended-twice}
 use Rattle.rvs_suite.proofs.SparingTests.{run-spares}
 use Rattle.rvs_suite.proofs.Passed.{never-failed}
-use Rattle.rvs_suite.proofs.Signed.{has-test, proved}
+use Rattle.rvs_promises.proofs.Signed.{has-test, proved}
 use Rattle.rvs_suite.proofs.Signs.{signs}
 use Rattle.rvs_suite.proofs.Standing.{files-stand, runs-stand, test_by, test-of}
-use Rattle.rvs_suite.proofs.RoomEnds.{asks, asked-room, asked-then}
-use Rattle.rvs_suite.proofs.Tested.{good-inputs, placed-inputs, groups-accepted, tested-run}
+use Rattle.rvs_promises.proofs.RoomEnds.{asks, asked-room, asked-then}
+use Rattle.rvs_promises.proofs.Tested.{good-inputs, placed-inputs}
+use Rattle.rvs_suite.proofs.TestedRuns.{groups-accepted, tested-run}
 use Rattle.rvs_suite.proofs.Trials.{tried-all, told-runs, has-judged}
-use Rattle.rvs_suite.proofs.Untouched.{never-end, runs-on, untouched}
-use Rattle.rvs_suite.proofs.Written.{apart-labels}
+use Rattle.rvs_promises.proofs.Untouched.{never-end, untouched}
+use Rattle.rvs_suite.proofs.Stopping.{runs-on, stops-run}
+use Rattle.rvs_promises.proofs.Written.{apart-labels}
 use Rattle.rvs_words.specs.declared.command.RunArguments.{RunArguments}
 
 -- ---- the end, by what the inputs come to
@@ -151,25 +153,23 @@ done-only : (status : Status)
     → (status ≡ answer.NotPassed → ⊥) → (status ≡ answer.Done) ⊎ (status ≡ answer.NoMemory)
 done-only status h never = grind arith
 
-judged-done : {call : Call} (files : Files) (asked : RunArguments) → RunsOn call files (Run asked)
+judged-done : {call : Call} (files : Files) (asked : RunArguments) → RunsOn call files IsAnswer (run asked)
     → call.status ≡ answer.Done
     → WasJudged call files asked finish.Done
 judged-done {call} files asked r is =
     left {call = call} files asked finish.Done r.told
-    (at_status (ran-command r) files (Run asked) answer.Done r.told refl
-    is).completes
+    (at_status r.ran files answer.Done r.told is).completes
 
 judged-not_passed : {call : Call} (files : Files) (asked : RunArguments)
-    → RunsOn call files (Run asked)
+    → RunsOn call files IsAnswer (run asked)
     → call.status ≡ answer.NotPassed
     → WasJudged call files asked finish.NotPassed
 judged-not_passed {call} files asked r is =
     left {call = call} files asked finish.NotPassed r.told
-    (at_status (ran-command r) files (Run asked) answer.NotPassed r.told
-    refl is).completes
+    (at_status r.ran files answer.NotPassed r.told is).completes
 
 -- and the files of each are there
-there : {call : Call} (files : Files) (asked : RunArguments) → RunsOn call files (Run asked)
+there : {call : Call} (files : Files) (asked : RunArguments) → RunsOn call files IsAnswer (run asked)
     → (inputs : RunInputs) (test : Test) (files' : Files)
     → run_inputs_in files asked ≡ Ok inputs → Contains (tests_in inputs) test
     → (call.status ≡ answer.Done) ⊎ (call.status ≡ answer.NotPassed)
@@ -190,7 +190,7 @@ there {call} files asked r inputs test files' given inside ended told =
         (groups-accepted files asked inputs given)) inside
 
 -- and the device was run once on each
-once : {call : Call} (files : Files) (asked : RunArguments) → RunsOn call files (Run asked)
+once : {call : Call} (files : Files) (asked : RunArguments) → RunsOn call files IsAnswer (run asked)
     → (inputs : RunInputs) (before after : List DeviceRun)
     → run_inputs_in files asked ≡ Ok inputs
     → (call.status ≡ answer.Done) ⊎ (call.status ≡ answer.NotPassed)
@@ -208,7 +208,7 @@ once {call} files asked r inputs before after given ended old new =
         (given-left {call = call} files asked inputs end given was) old new
 
 -- that of a label with a solvable point has the property
-proved-there : {call : Call} (files : Files) (asked : RunArguments) → RunsOn call files (Run asked)
+proved-there : {call : Call} (files : Files) (asked : RunArguments) → RunsOn call files IsAnswer (run asked)
     → (inputs : RunInputs) (l : Label) (k : ℕ) (files' : Files)
     → run_inputs_in files asked ≡ Ok inputs → Contains inputs.groups.groups l
     → IsTrue l.selected → IsSolvableAt inputs.groups.isa l k
@@ -229,25 +229,23 @@ proved-there {call} files asked r inputs l k files' given inside selected
 
 -- how it ends
 answers-run : {call : Call} (files : Files) (asked : RunArguments)
-    → RunsOn call files (Run asked) → Answered call (run_inputs_in files asked)
+    → RunsOn call files IsAnswer (run asked) → Answered call (run_inputs_in files asked)
     (HasJudgedTests call files asked)
 answers-run {call} files asked r =
     let old = world_of call.old in
     let new = world_of call.new in
-    let command = Run asked in
     let plan = run asked in
-    let ran = ran-command r in
     record {
       done = judged-done files asked r;
       not_passed = judged-not_passed files asked r;
-      by_inputs = λ inputs given none. elim (asked_means ran files command r.told refl none) [
+      by_inputs = λ inputs given none. elim (ran_answered r.ran files r.told none) [
         | inl m ↦ ended files asked inputs call.status m.end given m.comes
             m.status_is
         | inr no_memory ↦ inr (inr no_memory)
       ];
       refused = λ is.
           let was = was_refused plan old new call.old.err call.new.err
-          (at_status ran files command answer.Refused r.told refl is) in
+          (at_status r.ran files answer.Refused r.told is) in
           record {
             text = was.text;
             refused = stopped files asked (why.Refused was.text)
@@ -255,13 +253,13 @@ answers-run {call} files asked r =
                 was.completes);
             line = was.line;
           };
-      by_refusal = λ text given none. elim (asked_means ran files command r.told refl none) [
+      by_refusal = λ text given none. elim (ran_answered r.ran files r.told none) [
         | inl m ↦ inl (means-end plan files call.status (Err (why.Refused text)) m
             (stops files asked (why.Refused text) given))
         | inr no_memory ↦ inr no_memory
       ];
       absent = λ is. elim (was_missing plan old new call.old.err call.new.err
-          (at_status ran files command answer.HostFault r.told refl is)) [
+          (at_status r.ran files answer.HostFault r.told is)) [
             | inl was ↦ inl (record {
               name = was.name;
               absent = stopped files asked (why.NoFile was.name)
@@ -271,7 +269,7 @@ answers-run {call} files asked r =
             })
             | inr rose ↦ inr rose
           ];
-      by_absence = λ name given none. elim (asked_means ran files command r.told refl none) [
+      by_absence = λ name given none. elim (ran_answered r.ran files r.told none) [
         | inl m ↦ inl (means-end plan files call.status (Err (why.NoFile name)) m
             (stops files asked (why.NoFile name) given))
         | inr no_memory ↦ inr no_memory
@@ -279,7 +277,7 @@ answers-run {call} files asked r =
     }
 
 -- where there is no room for a test, it is refused
-rooms : {call : Call} (files : Files) (asked : RunArguments) → RunsOn call files (Run asked)
+rooms : {call : Call} (files : Files) (asked : RunArguments) → RunsOn call files IsAnswer (run asked)
     → (inputs : Inputs) → inputs_in files asked.isa asked.families asked.groups ≡ Ok inputs
     → AsksForRoom call files inputs
 rooms {call} files asked r inputs given =
@@ -294,13 +292,13 @@ rooms {call} files asked r inputs given =
     (λ i. Ok (parted_inputs asked.part i))
     (asked-room inputs (inputs_in files asked.isa asked.families asked.groups) given)))
     (answers-run files asked r)
-    (λ is. untouched (ran-command r) files r.told tt (inr is))
-    (λ text refused files' other. run-spares r.ran files files' asked other r.told r.asks
+    (λ is. untouched r.ran files r.told (stops-run asked) (inr is))
+    (λ text refused files' other. run-spares asked r.ran files files' other r.told
     (λ i test accepted. let no : Err (why.Refused text) ≡ Ok i =
     sym refused ∙ accepted in absurd cc))
 
 -- where it is done, each test passes, and each label with a solvable point has one
-signed : {call : Call} (files : Files) (asked : RunArguments) → RunsOn call files (Run asked)
+signed : {call : Call} (files : Files) (asked : RunArguments) → RunsOn call files IsAnswer (run asked)
     → call.status ≡ answer.Done → HasLeft (run_inputs_in files asked)
     (λ inputs. IsSigned call (bench_of asked.program asked.work inputs) inputs.groups.groups
     (tests_in inputs))
@@ -315,16 +313,14 @@ signed {call} files asked r is =
 
 -- ---- the promise
 pub judges : {call : Call} (files : Files) (asked : RunArguments)
-    → RunsOn call files (Run asked) → Runs call files
+    → RunsOn call files IsAnswer (run asked) → Runs call files
     asked
 judges {call} files asked r =
-    let command = Run asked in
-    let ran = ran-command r in
     record {
       signed = signed files asked r;
       answered = answers-run files asked r;
       alone = λ inputs test before run given one was now spells none.
-          elim (asked_means ran files command r.told refl none) [
+          elim (ran_answered r.ran files r.told none) [
             | inl m ↦ done-only call.status
                 (ended files asked inputs call.status m.end given m.comes
                 m.status_is)
@@ -339,8 +335,7 @@ judges {call} files asked r =
                 (judged-not_passed files asked r not_passed))))
             | inr no_memory ↦ inr no_memory
           ];
-      others_kept = λ files' other. run-spares r.ran files files' asked
-          other r.told r.asks;
+      others_kept = λ files' other. run-spares asked r.ran files files' other r.told;
       each = proved-there files asked r;
       rooms = λ inputs given. rooms files asked r inputs given;
       there = there files asked r;

@@ -12,7 +12,7 @@ use Rattle.rvs_run.specs.RunTests.{RunInputs, run_inputs}
 use Rattle.rvs_suite.specs.Judging.{run_inputs_in}
 use Rattle.rvs_inputs.proofs.Readers.{OnlyReads, OnlyReads-then}
 use Rattle.rvs_inputs.proofs.Finding.{Finds}
-use Rattle.rvs_suite.proofs.TestedInputs.{reads-labels, finds-labels}
+use Rattle.rvs_promises.proofs.TestedInputs.{reads-labels, finds-labels}
 use Rattle.rvs_inputs.proofs.GroupInputs.{finds-and_then}
 use Rattle.rvs_words.specs.declared.command.RunArguments.{RunArguments}
 

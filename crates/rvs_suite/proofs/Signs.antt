@@ -12,19 +12,19 @@ use Rattle.rvs_device.specs.Judging.{Spells}
 use Rattle.rvs_test_text.specs.TestText.{step_limit}
 use Rattle.rvs_test_text.specs.Claim.{words_after}
 use Rattle.rvs_test.specs.Made.{cases_of}
-use Rattle.rvs_suite.specs.Call.{Call}
-use Rattle.rvs_suite.specs.Headline.{IsProved}
+use Rattle.rvs_promises.specs.Call.{Call}
+use Rattle.rvs_promises.specs.Headline.{IsProved}
 use Rattle.rvs_run.specs.RunTests.{Bench, RunInputs, bench_of}
 use Rattle.rvs_suite.specs.RunLeft.{Trial, with_trial, AreTrialsOf, runs_of, IsRunOf, task_of}
 use Rattle.rvs_suite.specs.RunLeft.{HasSpelled}
 use Rattle.rvs_suite.specs.Judging.{tests_in, HasJudgedTests}
 use Rattle.rvs_suite.specs.Signing.{Passes, IsSigned}
-use Rattle.rvs_suite.specs.Tested.{AreTested}
+use Rattle.rvs_promises.specs.Tested.{AreTested}
 use Rattle.rvs_generate.specs.Tests.{reference_words, words_of_image, run_on, held}
 use Rattle.rvs_generate.specs.declared.gathering.Test.{Test}
 use Rattle.rvs_words.specs.declared.command.RunArguments.{RunArguments}
 use Rattle.rvs_suite.proofs.KeptTrials.{held-trial}
-use Rattle.rvs_suite.proofs.Signed.{has-test, proved}
+use Rattle.rvs_promises.proofs.Signed.{has-test, proved}
 use Rattle.rvs_suite.proofs.Standing.{held-run, among-runs, test_by, test-of}
 
 record Passed (bench : Bench) (test : Test) (runs : List DeviceRun) : Type 0 where

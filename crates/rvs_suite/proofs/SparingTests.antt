@@ -4,7 +4,7 @@ use Rattle.std.proofs.Common.{Result, Ok, Err, Contains, refl, arith, rules}
 use Rattle.std.proofs.lemmas.List.Elements.{Contains-append_right}
 use Rattle.rvs_base.specs.Host.{Files, Tells}
 use Rattle.rvs_base.specs.Sink.{SinkState}
-use Rattle.rvs_plan.specs.World.{World}
+use Rattle.rvs_plan.specs.World.{World, Absence}
 use Rattle.rvs_plan.specs.Plan.{followed, ◌>>=◌}
 use Rattle.rvs_plan.specs.Inputs.{part_end}
 use Rattle.rvs_plan.specs.declared.stop.Stop.{Stop}
@@ -15,10 +15,10 @@ use Rattle.rvs_suite.specs.Judging.{run_inputs_in, tests_in}
 use Rattle.rvs_suite.specs.JudgingDatabase.{database_inputs_in, chosen_in, IsNoneOf}
 use Rattle.rvs_reference.specs.Reference.{test_limit}
 use Rattle.rvs_run.specs.RunDatabase.{DatabaseInputs, database_inputs, database_bench}
-use Rattle.rvs_run.specs.RunDatabase.{runs_database}
+use Rattle.rvs_run.specs.RunDatabase.{runs_database, run_database}
 use Rattle.rvs_run.specs.RunTests.{Bench, asks_elf, if_asked, files_for, made_by, made_of_image}
 use Rattle.rvs_run.specs.RunTests.{made_found, announces_made, judges_one, judges_all, with_one}
-use Rattle.rvs_run.specs.RunTests.{tallies, RunInputs, run_inputs, bench_of, runs}
+use Rattle.rvs_run.specs.RunTests.{tallies, RunInputs, run_inputs, bench_of, runs, run}
 use Rattle.rvs_generate.specs.TestFiles.{IsOther, files_of, files_at}
 use Rattle.rvs_reference.specs.TestRun.{accepted, then_found, image_found}
 use Rattle.rvs_generate.specs.Tests.{reference_words, executable_of}
@@ -30,10 +30,8 @@ use Rattle.rvs_reference.specs.declared.test_run.Run.{Run as TestRun}
 use Rattle.rvs_suite.proofs.DatabaseReads.{finds-database-inputs}
 use Rattle.rvs_suite.proofs.KeptTrials.{IsNotOf}
 use Rattle.rvs_suite.proofs.RunReads.{finds-run}
-use Rattle.rvs_suite.proofs.Running.{Ran}
-use Rattle.rvs_suite.proofs.Sparing.{Spares, Spares-then, spares-found, spares}
-use Rattle.rvs_words.specs.declared.command.Command.{Command}
-use Rattle.rvs_words.specs.declared.command.Command.TheVariants.{Run, RunDatabase}
+use Rattle.rvs_promises.proofs.Running.{Ran}
+use Rattle.rvs_promises.proofs.Sparing.{Spares, Spares-then, spares-found, spares}
 use Rattle.rvs_words.specs.declared.command.RunArguments.{RunArguments}
 use Rattle.rvs_words.specs.declared.command.RunDatabaseArguments.{RunDatabaseArguments}
 
@@ -115,12 +113,12 @@ IsNoTest files asked other = (inputs : RunInputs) (test : Test)
     → Contains (tests_in inputs) test
     → IsOther (wants_elf inputs.device.command) (files_of asked.work test.name) other
 
-pub run-spares : {command : Command} {old new : World} {err err' : SinkState} {status : Status}
-    → Ran command old new err err' status → (files files' : Files) (asked : RunArguments)
-    (other : List ℕ) → Tells old.host files → command ≡ Run asked → IsNoTest files asked other
+pub run-spares : {absence : Absence} {old new : World} {err err' : SinkState} {status : Status}
+    (asked : RunArguments) → Ran absence (run asked) old new err err' status
+    → (files files' : Files) (other : List ℕ) → Tells old.host files → IsNoTest files asked other
     → new.host.files ≡ Some files' → files' other ≡ files other
-run-spares r files files' asked other t is apart told =
-    spares r files files' (Run asked) other t is
+run-spares asked r files files' other t apart told =
+    spares r files files' other t
     (spares-found files other (run_inputs asked) (runs asked.program asked.work)
     (run_inputs_in files asked) (finds-run files asked)
     (λ inputs given. spares-judging (λ (test : Test). Held test) other
@@ -134,13 +132,13 @@ IsNoFile files asked other = (inputs : DatabaseInputs) (given : Given)
     → database_inputs_in files asked ≡ Ok inputs → Contains (chosen_in inputs) given
     → IsNoneOf (database_bench asked.program asked.work inputs) given other
 
-pub database-spares : {command : Command} {old new : World} {err err' : SinkState}
-    {status : Status} → Ran command old new err err' status
-    → (files files' : Files) (asked : RunDatabaseArguments) (other : List ℕ)
-    → Tells old.host files → command ≡ RunDatabase asked → IsNoFile files asked other
+pub database-spares : {absence : Absence} {old new : World} {err err' : SinkState}
+    {status : Status} (asked : RunDatabaseArguments)
+    → Ran absence (run_database asked) old new err err' status → (files files' : Files)
+    (other : List ℕ) → Tells old.host files → IsNoFile files asked other
     → new.host.files ≡ Some files' → files' other ≡ files other
-database-spares r files files' asked other t is apart told =
-    spares r files files' (RunDatabase asked) other t is
+database-spares asked r files files' other t apart told =
+    spares r files files' other t
     (spares-found files other (database_inputs asked) (runs_database asked.program asked.work)
     (database_inputs_in files asked) (finds-database-inputs files asked)
     (λ inputs accepts. spares-judging (λ (g : Given). Read g) other

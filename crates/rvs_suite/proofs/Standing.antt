@@ -20,7 +20,7 @@ use Rattle.rvs_normal.specs.Again.{names_are_apart}
 use Rattle.rvs_normal.proofs.Truths.{not-true}
 use Rattle.rvs_test_text.specs.TestText.{step_limit}
 use Rattle.rvs_test.specs.Made.{cases_of, text_of_label}
-use Rattle.rvs_suite.specs.Call.{Call}
+use Rattle.rvs_promises.specs.Call.{Call}
 use Rattle.rvs_generate.specs.Tests.{reference_words, executable_of, test_with, tests_of_label}
 use Rattle.rvs_generate.specs.Tests.{tests_of, held}
 use Rattle.rvs_generate.specs.TestFiles.{files_of}

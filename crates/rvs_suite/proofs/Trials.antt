@@ -14,7 +14,7 @@ use Rattle.rvs_plan.specs.declared.stop.Stop.{Stop}
 use Rattle.rvs_plan.specs.declared.status.Finish.{Finish}
 use Rattle.rvs_device.specs.Printed.{verdict_line}
 use Rattle.rvs_device.specs.declared.verdicts.TestVerdict.{TestVerdict}
-use Rattle.rvs_suite.specs.Call.{Call, world_of}
+use Rattle.rvs_promises.specs.Call.{Call, world_of}
 use Rattle.rvs_inputs.specs.GroupFiles.{and_then}
 use Rattle.rvs_suite.specs.Judging.{HasTried, HasJudged}
 use Rattle.rvs_reference.specs.Reference.{test_limit}
@@ -35,8 +35,8 @@ use Rattle.rvs_generate.specs.declared.test_files.TestFiles.{TestFiles}
 use Rattle.rvs_inputs.proofs.Chains.{then-then}
 use Rattle.rvs_suite.proofs.Passed.{are-judged}
 use Rattle.rvs_generate.proofs.Paths.{found-in, same-bytes}
-use Rattle.rvs_suite.proofs.RunSteps.{Step, did-step, read-step, ran-step, left-over, left-there}
-use Rattle.rvs_suite.proofs.RunSteps.{contents_of, appended-twice, append-none}
+use Rattle.rvs_promises.proofs.RunSteps.{Step, did-step, read-step, ran-step, left-over, left-there}
+use Rattle.rvs_promises.proofs.RunSteps.{contents_of, appended-twice, append-none}
 
 -- ---- what is written where there is something
 held-step : (name : List ℕ) (source : Source) (plan : Plan TestVerdict)

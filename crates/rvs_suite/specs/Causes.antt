@@ -12,7 +12,7 @@ use Rattle.rvs_plan.specs.declared.status.Finish.{Finish}
 use Rattle.rvs_plan.specs.declared.status.Status.TheVariants as answer
 use Rattle.rvs_words.specs.Commands.{command_of}
 use Rattle.rvs_suite.specs.Plans.{absence_of, effects_of}
-use Rattle.rvs_suite.specs.Call.{Call, world_of, Asks, HostRose}
+use Rattle.rvs_promises.specs.Call.{Call, world_of, Asks, HostRose}
 use Rattle.rvs_words.specs.declared.command.Command.TheVariants.{Unknown}
 
 -- the sink for errors has this line more

@@ -12,15 +12,15 @@ use Rattle.rvs_cgf.specs.Groups.{Label}
 use Rattle.rvs_solver.specs.Solving.{IsSolvableAt}
 use Rattle.rvs_device.specs.Command.{wants_elf}
 use Rattle.rvs_device.specs.Judging.{Spells}
-use Rattle.rvs_suite.specs.Answered.{Answered, HasLeft}
-use Rattle.rvs_suite.specs.Call.{Call, Asks, NothingFailed, AnswersOnly}
+use Rattle.rvs_promises.specs.Answered.{Answered, HasLeft}
+use Rattle.rvs_promises.specs.Call.{Call, Asks, NothingFailed, AnswersOnly}
 use Rattle.rvs_generate.specs.GenerateTexts.{listing}
 use Rattle.rvs_generate.specs.Generate.{path_of}
 use Rattle.rvs_inputs.specs.GroupFiles.{Inputs, and_then, inputs_in}
 use Rattle.rvs_generate.specs.TestedInputs.{labels_in}
 use Rattle.rvs_inputs.specs.DeviceInput.{device_in}
-use Rattle.rvs_suite.specs.Headline.{HasProvedTest}
-use Rattle.rvs_suite.specs.Rooms.{AsksForRoom}
+use Rattle.rvs_promises.specs.Headline.{HasProvedTest}
+use Rattle.rvs_promises.specs.Rooms.{AsksForRoom}
 use Rattle.rvs_generate.specs.Tests.{reference_words, executable_of, tests_of, held}
 use Rattle.rvs_generate.specs.TestFiles.{IsOther, files_of}
 use Rattle.rvs_run.specs.RunTests.{Bench, files_for, asks_elf, tally_line, verdict_of_all}

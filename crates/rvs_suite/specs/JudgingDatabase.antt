@@ -18,13 +18,13 @@ use Rattle.rvs_elf.specs.Written.{elf_of}
 use Rattle.rvs_device.specs.Command.{wants_elf}
 use Rattle.rvs_device.specs.Judging.{Spells}
 use Rattle.rvs_device.specs.declared.verdicts.TestVerdict.TheVariants.{Pass}
-use Rattle.rvs_suite.specs.Answered.{HasLeft, HasRefused, HasMissed}
-use Rattle.rvs_suite.specs.Call.{Call, world_of, Asks, NothingFailed, HostRose, AnswersOnly}
+use Rattle.rvs_promises.specs.Answered.{HasLeft, HasRefused, HasMissed}
+use Rattle.rvs_promises.specs.Call.{Call, world_of, Asks, NothingFailed, HostRose, AnswersOnly}
 use Rattle.rvs_inputs.specs.DatabaseInput.{marked_in}
 use Rattle.rvs_inputs.specs.DeviceInput.{device_in}
 use Rattle.rvs_inputs.specs.GroupFiles.{and_then}
 use Rattle.rvs_suite.specs.Judging.{HasTried, HasJudged}
-use Rattle.rvs_suite.specs.Referencing.{trial_in}
+use Rattle.rvs_promises.specs.Referencing.{trial_in}
 use Rattle.rvs_run.specs.RunDatabase.{chosen, DatabaseInputs, database_bench}
 use Rattle.rvs_suite.specs.RunLeft.{made_in, Trial, with_trials, task_on, trial_verdict, HasSpelled}
 use Rattle.rvs_run.specs.RunTests.{Bench, asks_elf, made_found}

@@ -1,13 +1,13 @@
 -- What each command line does.
 use Rattle.std.specs.Prelude.{◌≡◌, ◌⊎◌, List, ℕ, Result, Err, ⊤}
-use Rattle.rvs_base.specs.Host.{HostState}
-use Rattle.rvs_plan.specs.World.{World, world, Absence, IsFault, IsAnswer}
+use Rattle.rvs_plan.specs.World.{World, Absence, IsFault, IsAnswer}
 use Rattle.rvs_plan.specs.Plan.{Plan, ends}
-use Rattle.rvs_plan.specs.Meets.{Obeys, Meets}
+use Rattle.rvs_plan.specs.Meets.{Obeys}
 use Rattle.rvs_plan.specs.declared.stop.Stop.{Stop}
 use Rattle.rvs_plan.specs.declared.stop.Stop.TheVariants as why
 use Rattle.rvs_plan.specs.declared.status.Finish.{Finish}
 use Rattle.rvs_words.specs.Commands.{command_of}
+use Rattle.rvs_promises.specs.Apart.{IsApart}
 use Rattle.rvs_plain.specs.Compare as comparing
 use Rattle.rvs_plain.specs.Validate as validating
 use Rattle.rvs_coverage.specs.Coverage as covering
@@ -59,12 +59,6 @@ absence_of _ = IsFault
 abbrev pub ReadsFirst : Command → Type 0
 ReadsFirst (RunDatabase asked) = ⊥
 ReadsFirst _ = ⊤
-
--- work that has no part in the host: it left the host as it was, and does the same beside any other
-pub record IsApart (plan : Plan Finish) (old new : World) (result : Result Finish Stop) : Type
-    0 where
-  pub kept : new.host ≡ old.host
-  pub beside : (host : HostState) → Meets plan (world host old.out) (world host new.out) result
 
 -- what was done for a command, and how it ended
 pub record Performs (command : Command) (old new : World) (result : Result Finish Stop) : Type

@@ -1,21 +1,21 @@
 -- What every call of the program promises.
 use Rattle.rvs_base.specs.Sink.{SinkState}
-use Rattle.rvs_suite.specs.Call.{Call}
+use Rattle.rvs_promises.specs.Call.{Call}
 use Rattle.rvs_suite.specs.Planned as following
 use Rattle.rvs_suite.specs.Causes as answering
-use Rattle.rvs_suite.specs.Comparing as comparing
-use Rattle.rvs_suite.specs.Validating as validating
-use Rattle.rvs_suite.specs.Normalizing as normalizing
-use Rattle.rvs_suite.specs.Generating as generating
-use Rattle.rvs_suite.specs.Referencing as referencing
-use Rattle.rvs_suite.specs.Covering as covering
-use Rattle.rvs_suite.specs.Propagating as propagating
-use Rattle.rvs_suite.specs.Progressing as progressing
+use Rattle.rvs_promises.specs.Comparing as comparing
+use Rattle.rvs_promises.specs.Validating as validating
+use Rattle.rvs_promises.specs.Normalizing as normalizing
+use Rattle.rvs_promises.specs.Generating as generating
+use Rattle.rvs_promises.specs.Referencing as referencing
+use Rattle.rvs_promises.specs.Covering as covering
+use Rattle.rvs_promises.specs.Propagating as propagating
+use Rattle.rvs_promises.specs.Progressing as progressing
 use Rattle.rvs_suite.specs.Judging as judging
 use Rattle.rvs_suite.specs.JudgingDatabase as database
 use Rattle.rvs_suite.specs.Reporting as reporting
-use Rattle.rvs_suite.specs.Selecting as selecting
-use Rattle.rvs_suite.specs.Demonstrating as demonstrating
+use Rattle.rvs_promises.specs.Selecting as selecting
+use Rattle.rvs_promises.specs.Demonstrating as demonstrating
 
 -- The first facts are of every call. Each other is of the calls whose words ask for its command:
 -- what the answer means, what leads to it, and what is left. Where a call tells its progress, what

@@ -11,14 +11,14 @@ use Rattle.rvs_page.specs.Shown.{verdict_of}
 use Rattle.rvs_page.specs.declared.shown.State.TheVariants.{Pass}
 use Rattle.rvs_page.specs.declared.shown.Verdict.TheVariants as verdict
 use Rattle.rvs_page.specs.declared.shown.Page.{Page}
-use Rattle.rvs_suite.specs.Answered.{Answered}
-use Rattle.rvs_suite.specs.Call.{Call, Asks}
+use Rattle.rvs_promises.specs.Answered.{Answered}
+use Rattle.rvs_promises.specs.Call.{Call, Asks}
 use Rattle.rvs_inputs.specs.GroupFiles.{Inputs, inputs_in}
 use Rattle.rvs_generate.specs.Tests.{reference_words, tests_of}
 use Rattle.rvs_generate.specs.TestFiles.{files_of}
 use Rattle.rvs_report.specs.Findings.{finding_in}
 use Rattle.rvs_report.specs.Report.{page_in, end_by}
-use Rattle.rvs_suite.specs.Rooms.{AsksForRoom}
+use Rattle.rvs_promises.specs.Rooms.{AsksForRoom}
 use Rattle.rvs_generate.specs.declared.gathering.Test.{Test}
 use Rattle.rvs_words.specs.declared.command.Command.TheVariants.{Report}
 use Rattle.rvs_words.specs.declared.command.ReportArguments.{ReportArguments}

@@ -6,8 +6,8 @@ use Rattle.rvs_cgf.specs.Groups.{Label}
 use Rattle.rvs_solver.specs.Solving.{IsSolvableAt}
 use Rattle.rvs_device.specs.Judging.{Spells}
 use Rattle.rvs_test_text.specs.Claim.{words_after}
-use Rattle.rvs_suite.specs.Call.{Call}
-use Rattle.rvs_suite.specs.Headline.{IsProved}
+use Rattle.rvs_promises.specs.Call.{Call}
+use Rattle.rvs_promises.specs.Headline.{IsProved}
 use Rattle.rvs_run.specs.RunTests.{Bench}
 use Rattle.rvs_suite.specs.RunLeft.{IsRunOf, task_of}
 use Rattle.rvs_generate.specs.Tests.{reference_words, run_on}

@@ -1,16 +1,24 @@
 -- What drafts stand for, part by part.
 use Rattle.std.proofs.Common.{◌≡◌, ℕ, ◌+◌, ◌<◌, cond, Bool, true, false, List, [], ◌∷◌, ◌++◌}
 use Rattle.std.proofs.Common.{map, reverse, refl, sym, ap, ◌∙◌, rules, arith, Global}
-use Rattle.std.proofs.Common.{zero-add, add-zero, add_assoc}
+use Rattle.std.proofs.Common.{zero-add, add-zero, add_assoc, append_assoc, ◌≤◌, Result, Ok, Err}
+use Rattle.std.proofs.Common.{IfOk, OnOk, Vec, bytes_eq}
+use Rattle.std.specs.Prelude.{String, string_bytes, ◌||◌}
 use Rattle.std.specs.Borrow.{Bor}
 use Rattle.std.proofs.lemmas.List.{reverse-append}
 use Rattle.std.specs.declared.rc.Rc.{Rc}
 use Rattle.rvs_tree.specs.Data.{sequence, items_of, is_list}
-use Rattle.rvs_tree.specs.Value.{merged_pairs, pairs_in}
+use Rattle.rvs_tree.specs.Value.{merged_pairs, pairs_in, Written, has_key}
+use Rattle.rvs_tree.specs.GatheredView.{taken_view}
+use Rattle.rvs_tree.specs.declared.taken.Taken.{Taken}
+use Rattle.rvs_tree.specs.declared.gathering.Gathered.{Gathered}
+use Rattle.rvs_tree.specs.Data as data_spec
 use Rattle.rvs_tree.specs.TreeSize.{total}
 use Rattle.rvs_tree.specs.PartsView.{refs_view, next_view, part_size, draft_size, sizes, ref_sizes}
+use Rattle.rvs_tree.specs.PartsView.{brings}
 use Rattle.rvs_tree.proofs.Views.{list_of-items_of}
 use Rattle.rvs_tree.proofs.Sums.{map-append}
+use Rattle.rvs_tree.proofs.Single.{or-swap}
 use Rattle.rvs_tree.specs.TreeView.{rc_view}
 use Rattle.rvs_tree.specs.DraftView.{draft_view, part_view, merging_entry, merged_trees}
 use Rattle.rvs_tree.specs.DraftView.{data_of}
@@ -81,3 +89,66 @@ parts-fewer work rest p e s = omega (arith, ap sizes e, sizes-append rest (p ∷
 pub parts-appended : (b : Bool) (work rest new items : List Part) (p : Part) → work ≡ rest ++ p ∷ []
     → new ≡ cond b (rest ++ items) rest → sizes items < part_size p → sizes new < sizes work
 parts-appended b work rest new items p e n s = search (rules, sizes-append, sizes-one)
+
+-- entries with one more, beside something else
+pub push-refs : {X E : Type 0} (r : Result (Vec (Bor Part) Global × X) E) (ps qs : List (Bor Part))
+    (p : Bor Part) (ws : List Written) → IfOk r (λ x. x.0.items ≡ ps ++ p ∷ []) → ps ≡ qs
+    → part_view p.now ∷ [] ≡ ws → IfOk r (λ x. refs_view x.0.items ≡ refs_view qs ++ ws)
+push-refs (Ok x) ps qs p ws h s e =
+    ap refs_view h ∙ refs-push ps p ∙ ap (λ us. refs_view us ++ part_view p.now ∷ []) s
+    ∙ ap (λ us. refs_view qs ++ us) e
+push-refs (Err k) ps qs p ws h s e = h
+
+pub push-sizes : {X E : Type 0} (r : Result (Vec (Bor Part) Global × X) E) (ps qs : List (Bor Part))
+    (p : Bor Part) → IfOk r (λ x. x.0.items ≡ ps ++ p ∷ []) → ps ≡ qs
+    → IfOk r (λ x. ref_sizes x.0.items ≤ ref_sizes qs + part_size p.now)
+push-sizes (Ok x) ps qs p h s =
+    omega (arith, ap ref_sizes h, sizes-push ps p, ap ref_sizes s)
+push-sizes (Err k) ps qs p h s = h
+
+pub push-taken : {X E : Type 0} (r : Result (X × Taken) E) (t : Taken) (ks : List (List ℕ))
+    → IfOk r (λ x. x.1 ≡ t) → taken_view t ≡ ks → IfOk r (λ x. taken_view x.1 ≡ ks)
+push-taken (Ok x) t ks h e = ap taken_view h ∙ e
+push-taken (Err k) t ks h e = h
+
+-- what is brought with these before the rest
+pub stack-brings : {E : Type 0} (r : Result Gathered E) (g : Gathered) (ws us : List Written)
+    (ps : data_spec.Pairs) → OnOk r (ws ≡ us) → IfOk r (λ v. v ≡ g) → brings g us ≡ ps
+    → IfOk r (λ v. brings v ws ≡ ps)
+stack-brings (Ok v) g ws us ps s h e = ap (λ x. brings x ws) h ∙ ap (brings g) s ∙ e
+stack-brings (Err k) g ws us ps s h e = h
+
+pub stack-small : {X E : Type 0} (r : Result X E) (n m k : ℕ) → OnOk r (n ≡ m) → m ≤ k
+    → OnOk r (n ≤ k)
+stack-small (Ok v) n m k s h = omega (arith, s, h)
+stack-small (Err e) n m k s h = s
+
+pub stack-next : (first rest work new : List (Bor Part)) (p : Bor Part) → first ≡ rest ++ p ∷ []
+    → new ≡ work ++ p ∷ []
+    → refs_view rest ++ next_view new ≡ refs_view first ++ next_view work
+stack-next first rest work new p e f =
+    ap (λ x. refs_view rest ++ x) (ap next_view f ∙ next-push work p)
+    ∙ sym (append_assoc (refs_view rest) (part_view p.now ∷ []) (next_view work))
+    ∙ sym (ap (λ x. x ++ next_view work) (ap refs_view e ∙ refs-push rest p))
+
+pub stack-sizes : (first rest work new : List (Bor Part)) (p : Bor Part) → first ≡ rest ++ p ∷ []
+    → new ≡ work ++ p ∷ []
+    → ref_sizes new + ref_sizes rest ≡ ref_sizes work + ref_sizes first
+stack-sizes first rest work new p e f =
+    omega (arith, ap ref_sizes f, sizes-push work p, ap ref_sizes e, sizes-push rest p)
+
+pub taken-push : (old new : List (String Global)) (s : String Global) (k : List ℕ)
+    → new ≡ old ++ s ∷ [] → string_bytes s ≡ k
+    → reverse (map string_bytes new) ≡ k ∷ reverse (map string_bytes old)
+taken-push old new s k e f =
+    ap (λ ns. reverse (map string_bytes ns)) e
+    ∙ ap reverse (map-append string_bytes old (s ∷ []))
+    ∙ reverse-append (map string_bytes old) (string_bytes s ∷ [])
+    ∙ ap (λ n. n ∷ reverse (map string_bytes old)) f
+
+pub taken-has : (k n : List ℕ) (T : List (List ℕ))
+    → (has_key k T || bytes_eq n k) ≡ has_key k (n ∷ T)
+taken-has k n T = grind (arith, or-swap)
+
+pub any-ok : {X E P : Type 0} (r : Result X E) → P → OnOk r P
+any-ok r p = grind arith

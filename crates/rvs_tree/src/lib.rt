@@ -11,6 +11,7 @@ mod gathering;
 mod held;
 mod key_depth;
 mod keys;
+mod letting;
 mod members;
 mod merge_keys;
 mod merged;

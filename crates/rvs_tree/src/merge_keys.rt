@@ -2,13 +2,14 @@
 ghost use Rattle.std.specs.Prelude.{◌≡◌, ℕ, List, map, true, ◌&&◌, ◌||◌, IfOk};
 ghost use Rattle.std.specs.BTreeSet.{contains_text};
 ghost use Rattle.rvs_tree.specs.Data.{own_pairs};
-ghost use Rattle.rvs_tree.specs.Value.{has_key, keys_of, pairs_in, merged_pairs};
+ghost use Rattle.rvs_tree.specs.Value.{has_key, keys_of, own_key, pairs_in, merged_pairs};
 ghost use Rattle.rvs_tree.specs.MergedView.{merged_has};
 ghost use Rattle.rvs_tree.specs.TreeView.{view, rc_view};
 ghost use Rattle.rvs_tree.specs.ValueView.{value_view, written_view};
 
 use crate::counted::Value;
 use crate::keys::with_key;
+use crate::letting::beside;
 use crate::merged_keys::MergedKeys;
 use crate::tree::Tree;
 use crate::whole::tree_of;
@@ -132,6 +133,13 @@ fn keys_so_far(alloc: Global, merged: Option<Box<MergedKeys>>) -> BTreeSet<Strin
     }
 }
 
+/// Keys that are kept.
+fn kept(alloc: Global, set: BTreeSet<String>) -> Result<Option<Box<MergedKeys>>, AllocError>
+    ensures { IfOk result (λ m. (k : List ℕ) → merged_has m k ≡ contains_text set k) }
+{
+    Ok(Some(Box::new(alloc, MergedKeys { set })?))
+}
+
 /// A value, and the keys that were kept with it.
 pub(crate) fn apart(value: Value) -> (Value, Option<Box<MergedKeys>>)
     ensures view { value_view result.0 ≡ value_view value }
@@ -170,24 +178,30 @@ pub(crate) fn written_apart(written: Written) -> (Written, Option<Box<MergedKeys
     (Written { key, merges, value }, keys)
 }
 
-/// The merged keys with those of an entry, where it merges.
-pub(crate) fn with_merged(
+/// These own keys and merged keys with those of an entry, which may be kept already.
+pub(crate) fn with_keys(
     alloc: Global,
+    own: BTreeSet<String>,
     merged: Option<Box<MergedKeys>>,
     written: &Written,
     keys: Option<Box<MergedKeys>>,
-) -> Result<Option<Box<MergedKeys>>, AllocError>
+) -> Result<(BTreeSet<String>, Option<Box<MergedKeys>>), AllocError>
     requires { (k : List ℕ) → merged_has keys k ≡ true
         → has_key k (keys_of (merged_pairs (value_view written.now.value).tree)) ≡ true }
-    ensures { IfOk result (λ m. (k : List ℕ) → merged_has m k ≡ true → (merged_has merged k
-        || (written.now.merges
+    ensures own { IfOk result (λ r. (k : List ℕ) → contains_text r.0 k
+        ≡ (contains_text own k || has_key k (own_key (written_view written.now)))) }
+    ensures merged { IfOk result (λ r. (k : List ℕ) → merged_has r.1 k ≡ true
+        → (merged_has merged k || (written.now.merges
         && has_key k (keys_of (merged_pairs (value_view written.now.value).tree)))) ≡ true) }
 {
     if !written.merges {
-        return Ok(merged);
+        drop(keys);
+        return beside(with_key(alloc, own, written.key.as_str()), merged);
     }
-    let set = with_value_keys(alloc, keys_so_far(alloc, merged), &written.value, keys)?;
-    Ok(Some(Box::new(alloc, MergedKeys { set })?))
+    let set = with_value_keys(alloc, keys_so_far(alloc, merged), &written.value, keys);
+    let (set, own) = beside(set, own)?;
+    let (merged, own) = beside(kept(alloc, set), own)?;
+    Ok((own, merged))
 }
 
 /// The keys of the maps of a list with those of one item more. Where an item is no map and isn't
@@ -208,7 +222,7 @@ pub(crate) fn with_item_keys(
         return Ok(None);
     }
     let set = with_value_keys(alloc, keys_so_far(alloc, so_far), value, keys)?;
-    Ok(Some(Box::new(alloc, MergedKeys { set })?))
+    kept(alloc, set)
 }
 
 /// The keys of a map: those that it merges, and these of its own. Where there are none, no set is
@@ -225,5 +239,5 @@ pub(crate) fn brought_keys(
     if set.is_empty() {
         return Ok(None);
     }
-    Ok(Some(Box::new(alloc, MergedKeys { set })?))
+    kept(alloc, set)
 }

@@ -1,5 +1,5 @@
 // Working out merges, with a list of what is to be done.
-ghost use Rattle.std.specs.Prelude.{◌≡◌, false, ◌≤◌, ◌<◌, ◌+◌, ◌∷◌, ◌++◌, ◌&&◌, [], IfOk};
+ghost use Rattle.std.specs.Prelude.{◌≡◌, false, ◌≤◌, ◌<◌, ◌+◌, ◌∷◌, ◌++◌, ◌&&◌, [], IfOk, OnOk};
 ghost use Rattle.rvs_tree.specs.Data.{is_list, is_map, own_pairs};
 ghost use Rattle.rvs_tree.specs.Value.{resolved, explicit_keys};
 ghost use Rattle.rvs_tree.specs.Sifted as sifted;
@@ -12,6 +12,7 @@ ghost use Rattle.rvs_tree.specs.PartsView.{draft_size, sizes, ref_sizes};
 
 use crate::draft::{Draft, Part};
 use crate::gathering::Gathered;
+use crate::letting::{beside, pushed};
 use crate::pairs::Pairs;
 use crate::taken::Taken;
 use std::alloc::{AllocError, Global};
@@ -22,33 +23,26 @@ use std::rc::Rc;
 fn keep_one<'a>(
     alloc: Global,
     taken: Taken,
-    mut kept: Vec<&'a Part>,
+    kept: Vec<&'a Part>,
     part: &'a Part,
-) -> Result<(Taken, Vec<&'a Part>), AllocError>
+) -> Result<(Vec<&'a Part>, Taken), AllocError>
     ensures taken { IfOk result
-        (λ r. taken_view r.0 ≡ parts_spec.takes (taken_view taken) (part_view part.now ∷ [])) }
-    ensures kept { IfOk result (λ r. refs_view r.1.items ≡ refs_view kept.entry.items
+        (λ r. taken_view r.1 ≡ parts_spec.takes (taken_view taken) (part_view part.now ∷ [])) }
+    ensures kept { IfOk result (λ r. refs_view r.0.items ≡ refs_view kept.entry.items
         ++ sifted.kept (taken_view taken) (part_view part.now ∷ [])) }
     ensures small { IfOk result
-        (λ r. ref_sizes r.1.items ≤ ref_sizes kept.entry.items + part_size part.now) }
+        (λ r. ref_sizes r.0.items ≤ ref_sizes kept.entry.items + part_size part.now) }
 {
     match part {
         Part::Pair(key, _) => {
             if taken.has(key.as_str()) {
-                return Ok((taken, kept));
+                return Ok((kept, taken));
             }
-            let taken = taken.with(alloc, key.as_str())?;
-            kept.push(part)?;
-            Ok((taken, kept))
+            let (taken, kept) = beside(taken.with(alloc, key.as_str()), kept)?;
+            pushed(kept, part, taken)
         }
-        Part::Whole(_) => {
-            kept.push(part)?;
-            Ok((taken, kept))
-        }
-        Part::Nested(_) => {
-            kept.push(part)?;
-            Ok((taken, kept))
-        }
+        Part::Whole(_) => pushed(kept, part, taken),
+        Part::Nested(_) => pushed(kept, part, taken),
     }
 }
 
@@ -57,19 +51,19 @@ fn keep<'a>(
     alloc: Global,
     taken: Taken,
     parts: &'a [Part],
-) -> Result<(Taken, Vec<&'a Part>), AllocError>
+) -> Result<(Vec<&'a Part>, Taken), AllocError>
     ensures taken { IfOk result
-        (λ r. taken_view r.0 ≡ parts_spec.takes (taken_view taken) (parts_view parts.now)) }
+        (λ r. taken_view r.1 ≡ parts_spec.takes (taken_view taken) (parts_view parts.now)) }
     ensures kept { IfOk result
-        (λ r. refs_view r.1.items ≡ sifted.kept (taken_view taken) (parts_view parts.now)) }
-    ensures small { IfOk result (λ r. ref_sizes r.1.items ≤ sizes parts.now) }
+        (λ r. refs_view r.0.items ≡ sifted.kept (taken_view taken) (parts_view parts.now)) }
+    ensures small { IfOk result (λ r. ref_sizes r.0.items ≤ sizes parts.now) }
 {
     let mut taken = taken;
     let mut kept = Vec::new(alloc);
     for part in parts {
-        (taken, kept) = keep_one(alloc, taken, kept, part)?;
+        (kept, taken) = keep_one(alloc, taken, kept, part)?;
     }
-    Ok((taken, kept))
+    Ok((kept, taken))
 }
 
 /// Whether what merges here is a map.
@@ -110,66 +104,60 @@ fn maps_in<'a>(alloc: Global, parts: &'a [Part]) -> Result<Vec<&'a Part>, AllocE
     Ok(maps)
 }
 
-/// What is to be done with these to be done first.
-fn stacked<'a>(
-    mut work: Vec<&'a Part>,
+/// Puts these before what is to be done, and gives the other value back.
+fn stack<'a, T: Drop>(
+    work: &mut Vec<&'a Part>,
     mut first: Vec<&'a Part>,
-) -> Result<Vec<&'a Part>, AllocError>
-    ensures next { IfOk result
-        (λ v. next_view v.items ≡ refs_view first.entry.items ++ next_view work.entry.items) }
-    ensures small { IfOk result
-        (λ v. ref_sizes v.items ≡ ref_sizes work.entry.items + ref_sizes first.entry.items) }
+    other: T,
+) -> Result<T, AllocError>
+    ensures next { OnOk result
+        (next_view work.new.items ≡ refs_view first.entry.items ++ next_view work.old.items) }
+    ensures small { OnOk result
+        (ref_sizes work.new.items ≡ ref_sizes work.old.items + ref_sizes first.entry.items) }
+    ensures other { IfOk result (λ v. v ≡ other) }
 {
     while let Some(part) = first.pop() {
         work.push(part)?;
     }
-    Ok(work)
+    Ok(other)
 }
 
 /// Puts the entries of a draft in its place.
 fn entered<'a>(
     alloc: Global,
     gathered: Gathered,
-    work: Vec<&'a Part>,
+    work: &mut Vec<&'a Part>,
     draft: &'a Draft,
-) -> Result<(Gathered, Vec<&'a Part>), AllocError>
-    ensures brought { IfOk result (λ r. brings r.0 (next_view r.1.items)
-        ≡ brings gathered (merging_entry (draft_view draft.now) ∷ next_view work.entry.items)) }
-    ensures small { IfOk result
-        (λ r. ref_sizes r.1.items ≤ ref_sizes work.entry.items + draft_size draft.now) }
+) -> Result<Gathered, AllocError>
+    ensures brought { IfOk result (λ g. brings g (next_view work.new.items)
+        ≡ brings gathered (merging_entry (draft_view draft.now) ∷ next_view work.old.items)) }
+    ensures small { OnOk result
+        (ref_sizes work.new.items ≤ ref_sizes work.old.items + draft_size draft.now) }
 {
     if draft.is_list() {
-        let maps = maps_in(alloc, draft.parts())?;
-        let work = stacked(work, maps)?;
-        return Ok((gathered, work));
+        let (maps, gathered) = beside(maps_in(alloc, draft.parts()), gathered)?;
+        return stack(work, maps, gathered);
     }
     let Gathered { pairs, taken } = gathered;
-    let (taken, kept) = keep(alloc, taken, draft.parts())?;
-    let work = stacked(work, kept)?;
-    Ok((Gathered { pairs, taken }, work))
+    let ((kept, taken), pairs) = beside(keep(alloc, taken, draft.parts()), pairs)?;
+    stack(work, kept, Gathered { pairs, taken })
 }
 
 /// Does the next of what is to be done.
 fn done<'a>(
     alloc: Global,
     gathered: Gathered,
-    work: Vec<&'a Part>,
+    work: &mut Vec<&'a Part>,
     part: &'a Part,
-) -> Result<(Gathered, Vec<&'a Part>), AllocError>
-    ensures brought { IfOk result (λ r. brings r.0 (next_view r.1.items)
-        ≡ brings gathered (part_view part.now ∷ next_view work.entry.items)) }
-    ensures small { IfOk result
-        (λ r. ref_sizes r.1.items < ref_sizes work.entry.items + part_size part.now) }
+) -> Result<Gathered, AllocError>
+    ensures brought { IfOk result (λ g. brings g (next_view work.new.items)
+        ≡ brings gathered (part_view part.now ∷ next_view work.old.items)) }
+    ensures small { OnOk result
+        (ref_sizes work.new.items < ref_sizes work.old.items + part_size part.now) }
 {
     match part {
-        Part::Pair(key, tree) => {
-            let gathered = gathered.with_own(alloc, key.as_str(), tree)?;
-            Ok((gathered, work))
-        }
-        Part::Whole(tree) => {
-            let gathered = gathered.with_merged(alloc, tree)?;
-            Ok((gathered, work))
-        }
+        Part::Pair(key, tree) => gathered.with_own(alloc, key.as_str(), tree),
+        Part::Whole(tree) => gathered.with_merged(alloc, tree),
         Part::Nested(draft) => entered(alloc, gathered, work, draft),
     }
 }
@@ -185,20 +173,22 @@ pub(crate) fn spread(
     let mut gathered = gathered;
     let mut work = work;
     while let Some(part) = work.pop() {
-        (gathered, work) = done(alloc, gathered, work, part)?;
+        gathered = done(alloc, gathered, &mut work, part)?;
     }
     Ok(gathered)
 }
 
-/// All these, one after another.
+/// All these, the first on top.
 fn all_of<'a>(alloc: Global, parts: &'a [Part]) -> Result<Vec<&'a Part>, AllocError>
-    ensures { IfOk result (λ v. refs_view v.items ≡ parts_view parts.now) }
+    ensures { IfOk result (λ v. next_view v.items ≡ parts_view parts.now) }
 {
-    let mut all = Vec::new(alloc);
-    for part in parts {
-        all.push(part)?;
+    let mut work = Vec::new(alloc);
+    let mut left = parts.len();
+    while left > 0 {
+        left -= 1;
+        work.push(&parts[left])?;
     }
-    Ok(all)
+    Ok(work)
 }
 
 /// The pairs of a map of these entries, with all that they merge.
@@ -206,14 +196,15 @@ pub(crate) fn resolved_parts(alloc: Global, parts: &[Part]) -> Result<Pairs, All
     ensures { IfOk result (λ p. pairs_view p
         ≡ resolved (explicit_keys (parts_view parts.now)) [] (parts_view parts.now)) }
 {
-    let (taken, kept) = keep(alloc, Taken::new(alloc), parts)?;
+    let (kept, taken) = keep(alloc, Taken::new(alloc), parts)?;
     drop(kept);
-    let work = stacked(Vec::new(alloc), all_of(alloc, parts)?)?;
+    let (work, taken) = beside(all_of(alloc, parts), taken)?;
     let gathered = Gathered {
         pairs: Pairs::new(alloc),
         taken,
     };
-    let Gathered { pairs, taken: _ } = spread(alloc, gathered, work)?;
+    let Gathered { pairs, taken } = spread(alloc, gathered, work)?;
+    drop(taken);
     Ok(pairs)
 }
 

@@ -11,14 +11,14 @@ use Rattle.rvs_sig.specs.Printed.{refusal_text}
 use Rattle.rvs_sig.specs.Verdicts.{verdict_of}
 use Rattle.rvs_sig.specs.Words.{words_of}
 use Rattle.rvs_sig.specs.declared.words.SigRefusal.{SigRefusal}
-use Rattle.rvs_suite.specs.Call.{Call}
+use Rattle.rvs_promises.specs.Call.{Call}
 use Rattle.rvs_device.specs.Judged.{signature_limit}
 use Rattle.rvs_plain.specs.Compare.{words_end}
-use Rattle.rvs_suite.specs.Comparing as suite
-use Rattle.rvs_suite.specs.Comparing.{Both, words_in, both_in}
+use Rattle.rvs_promises.specs.Comparing as suite
+use Rattle.rvs_promises.specs.Comparing.{Both, words_in, both_in}
 use Rattle.rvs_inputs.specs.GroupFiles.{and_then}
 use Rattle.rvs_plain.specs.Texts.{same_line, verdict_line}
-use Rattle.rvs_suite.proofs.Meanings.{then-ok, then-err, whole-of}
+use Rattle.rvs_promises.proofs.Meanings.{then-ok, then-err, whole-of}
 use Rattle.rvs_uses.specs.Comparing as comparing
 use Rattle.rvs_uses.specs.Laws.{ComparesFiles, PassesTheSame}
 use Rattle.rvs_uses.specs.Spells.{Spells, SpellsNone, IsRefused, BothSpell, FirstRefused}

@@ -17,10 +17,10 @@ use Rattle.rvs_isa.specs.Check.{checked}
 use Rattle.rvs_isa.specs.Print.{refusal_text}
 use Rattle.rvs_isa.specs.declared.accepted_spec.AcceptedSpec.{AcceptedSpec}
 use Rattle.rvs_isa.specs.declared.refusal.IsaRefusal.{IsaRefusal}
-use Rattle.rvs_suite.specs.Says.{Says}
+use Rattle.rvs_promises.specs.Says.{Says}
 use Rattle.rvs_inputs.specs.Specification.{isa_limit, yaml_text, checked_end, tree_end, bytes_said}
 use Rattle.rvs_inputs.specs.Specification.{said_in}
-use Rattle.rvs_suite.proofs.Meanings.{whole-of}
+use Rattle.rvs_promises.proofs.Meanings.{whole-of}
 use Rattle.rvs_uses.specs.Limits.{PassesLimit}
 use Rattle.rvs_uses.specs.Says.{IsRefused}
 

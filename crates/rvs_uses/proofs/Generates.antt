@@ -8,7 +8,7 @@ use Rattle.rvs_log.specs.Logs.{as_entry}
 use Rattle.rvs_index.specs.Counting.{count}
 use Rattle.rvs_solver.specs.Solving.{IsSolvableAt}
 use Rattle.rvs_generate.specs.Tests.{run_on}
-use Rattle.rvs_suite.specs.Headline.{IsKept, HasProvedTest}
+use Rattle.rvs_promises.specs.Headline.{IsKept, HasProvedTest}
 use Rattle.rvs_uses.specs.Laws.{MakesTests}
 use Rattle.rvs_uses.specs.Testing.{HitsPoint}
 

@@ -1,9 +1,9 @@
 -- What holds of each run that `reference` tells of.
 use Rattle.std.proofs.Common.{arith}
 use Rattle.rvs_reference.specs.TestRun.{limit_of}
-use Rattle.rvs_suite.proofs.Meanings.{both-halt}
-use Rattle.rvs_suite.proofs.LogEntries.{halting_entries}
-use Rattle.rvs_suite.proofs.StepLimits.{limits_are_low, halting-run}
+use Rattle.rvs_promises.proofs.Meanings.{both-halt}
+use Rattle.rvs_promises.proofs.LogEntries.{halting_entries}
+use Rattle.rvs_promises.proofs.StepLimits.{limits_are_low, halting-run}
 use Rattle.rvs_uses.specs.Halted.{RunsHalt, LogsTellRuns, RunsAreLimited, RunsAreBounded}
 
 pub runs-halt : RunsHalt

@@ -13,10 +13,11 @@ use Rattle.rvs_generate.specs.Tests.{IsRunnable, executable_of}
 use Rattle.rvs_suite.specs.RunLeft.{task_of}
 use Rattle.rvs_generate.specs.declared.gathering.Test.{Test}
 use Rattle.rvs_generate.proofs.Runnable.{elf-of-test}
-use Rattle.rvs_suite.proofs.Signed as signed
-use Rattle.rvs_suite.proofs.Tested.{groups-accepted, tested-labels, testable-labels}
-use Rattle.rvs_suite.proofs.Tested.{runnable-labels}
-use Rattle.rvs_suite.proofs.Written.{apart-labels}
+use Rattle.rvs_promises.proofs.Signed as signed
+use Rattle.rvs_promises.proofs.Tested.{tested-labels, testable-labels}
+use Rattle.rvs_suite.proofs.TestedRuns.{groups-accepted}
+use Rattle.rvs_promises.proofs.Tested.{runnable-labels}
+use Rattle.rvs_promises.proofs.Written.{apart-labels}
 use Rattle.rvs_uses.specs.Made.{TestsRun, NamesAreApart, TextsAreProved, UntestedHaveNone}
 use Rattle.rvs_uses.specs.Made.{TestsAreRunnable, IsExecutableOf, ExecutablesRun, RunsAccept}
 use Rattle.rvs_uses.specs.Made.{PassesBySpelling}

@@ -22,7 +22,7 @@ use Rattle.rvs_generate.specs.declared.gathering.Test.{Test}
 use Rattle.rvs_generate.proofs.Paths.{same-ending, not-reference, not-executable}
 use Rattle.rvs_generate.proofs.Paths.{reference-not-executable, device-not-executable, not-device}
 use Rattle.rvs_generate.proofs.Paths.{apart-signatures}
-use Rattle.rvs_suite.proofs.Written.{apart-labels}
+use Rattle.rvs_promises.proofs.Written.{apart-labels}
 use Rattle.rvs_uses.specs.Parted.{part_of, label_name, tests_in_part, IsInOne}
 use Rattle.rvs_uses.specs.Parted.{IsFileOf, IsText, IsExecutable, IsReference, IsDevice}
 use Rattle.rvs_uses.specs.Parted.{PartsAreApart}

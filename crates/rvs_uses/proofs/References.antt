@@ -11,21 +11,21 @@ use Rattle.rvs_plan.specs.declared.stop.Stop.TheVariants.{Refused, NoFile}
 use Rattle.rvs_plan.proofs.FoundInputs.{found-none, found-whole}
 use Rattle.rvs_insn.specs.Isa.{Isa}
 use Rattle.rvs_isa.specs.declared.accepted_spec.AcceptedSpec.{AcceptedSpec}
-use Rattle.rvs_suite.specs.Call.{Call, Asks, world_of}
+use Rattle.rvs_promises.specs.Call.{Call, Asks, world_of}
 use Rattle.rvs_inputs.specs.GroupFiles.{and_then}
-use Rattle.rvs_suite.specs.Halting.{TestHalts, BothHalt}
+use Rattle.rvs_promises.specs.Halting.{TestHalts, BothHalt}
 use Rattle.rvs_suite.specs.Planned as planned
 use Rattle.rvs_suite.specs.Plans.{ReadsFirst}
-use Rattle.rvs_suite.specs.Progressing.{asks_progress, behind}
+use Rattle.rvs_promises.specs.Progressing.{asks_progress, behind}
 use Rattle.rvs_reference.specs.Reference.{test_limit}
-use Rattle.rvs_suite.specs.Referencing as suite
-use Rattle.rvs_suite.specs.Referencing.{trial_in, run_in}
+use Rattle.rvs_promises.specs.Referencing as suite
+use Rattle.rvs_promises.specs.Referencing.{trial_in, run_in}
 use Rattle.rvs_inputs.specs.Specification.{said_in}
 use Rattle.rvs_reference.specs.TestRun.{found_end, test_found}
 use Rattle.rvs_reference.specs.declared.test_run.Run.{Run}
-use Rattle.rvs_suite.proofs.LogEntries.{halting_entries}
-use Rattle.rvs_suite.proofs.Meanings.{then-err, whole-of, says-of, both-halt}
-use Rattle.rvs_suite.proofs.TestEnds.{found-TestHalts}
+use Rattle.rvs_promises.proofs.LogEntries.{halting_entries}
+use Rattle.rvs_promises.proofs.Meanings.{then-err, whole-of, says-of, both-halt}
+use Rattle.rvs_promises.proofs.TestEnds.{found-TestHalts}
 use Rattle.rvs_words.specs.declared.command.Command.TheVariants.{Reference}
 use Rattle.rvs_uses.specs.Halting.{IsTestRefused, FirstRefused, FirstMissing}
 use Rattle.rvs_uses.specs.Laws.{RefersToFiles}

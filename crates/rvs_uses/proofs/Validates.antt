@@ -1,9 +1,9 @@
 -- What every call of `validate` promises, in the words of its file.
 use Rattle.std.proofs.Common.{inl, inr}
 use Rattle.rvs_base.specs.Host.{Files}
-use Rattle.rvs_suite.specs.Call.{Call}
-use Rattle.rvs_suite.specs.Validating as suite
-use Rattle.rvs_suite.proofs.Meanings.{says-of}
+use Rattle.rvs_promises.specs.Call.{Call}
+use Rattle.rvs_promises.specs.Validating as suite
+use Rattle.rvs_promises.proofs.Meanings.{says-of}
 use Rattle.rvs_uses.specs.Laws.{ValidatesFile}
 use Rattle.rvs_uses.specs.Validating as validating
 use Rattle.rvs_uses.proofs.Files.{says-in, isa-refused-in, isa-refused-of, isa-absent-in}

@@ -3,7 +3,7 @@ use Rattle.std.specs.Prelude.{◌≡◌, ◌⊎◌, List, ℕ}
 use Rattle.rvs_base.specs.Host.{Files, Tells}
 use Rattle.rvs_plan.specs.declared.status.Status.TheVariants.{Done, NotPassed, Refused, HostFault}
 use Rattle.rvs_plan.specs.declared.status.Status.TheVariants.{NoMemory}
-use Rattle.rvs_suite.specs.Call.{Call, Asks, NothingFailed, HostRose, AnswersOnly}
+use Rattle.rvs_promises.specs.Call.{Call, Asks, NothingFailed, HostRose, AnswersOnly}
 use Rattle.rvs_uses.specs.Refusals.{HasRefused, HasMissed}
 use Rattle.rvs_uses.specs.Spells.{BothSpell, FirstRefused, FirstMissing, Passes, Fails}
 use Rattle.rvs_words.specs.declared.command.Command.TheVariants.{Compare}

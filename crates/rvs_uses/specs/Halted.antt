@@ -3,8 +3,8 @@ use Rattle.std.specs.Prelude.{◌≡◌, ◌≤◌, ℕ, List, length, map, Opti
 use Rattle.rvs_base.specs.Host.{Files}
 use Rattle.rvs_log.specs.Entries.{entries_of}
 use Rattle.rvs_log.specs.Logs.{log_of, as_entry}
-use Rattle.rvs_suite.specs.Halting.{BothHalt, HoldsOctets}
-use Rattle.rvs_suite.specs.Referencing.{run_in}
+use Rattle.rvs_promises.specs.Halting.{BothHalt, HoldsOctets}
+use Rattle.rvs_promises.specs.Referencing.{run_in}
 use Rattle.rvs_reference.specs.TestRun.{limit_of}
 use Rattle.rvs_reference.specs.declared.test_run.Run.{Run}
 use Rattle.rvs_words.specs.Commands.{command_of, most_steps}

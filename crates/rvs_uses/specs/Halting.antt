@@ -7,8 +7,8 @@ use Rattle.rvs_insn.specs.Isa.{Isa}
 use Rattle.rvs_isa.specs.declared.accepted_spec.AcceptedSpec.{AcceptedSpec}
 use Rattle.rvs_sig.specs.Words.{text_of_words}
 use Rattle.rvs_uses.specs.Limits.{PassesLimit}
-use Rattle.rvs_suite.specs.Says.{Says}
-use Rattle.rvs_suite.specs.Halting.{BothHalt, with_log}
+use Rattle.rvs_promises.specs.Says.{Says}
+use Rattle.rvs_promises.specs.Halting.{BothHalt, with_log}
 use Rattle.rvs_uses.specs.Says.{IsRefused}
 use Rattle.rvs_reference.specs.TestTexts.{ran_line}
 use Rattle.rvs_reference.specs.TestRun.{test_found}

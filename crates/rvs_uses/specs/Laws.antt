@@ -3,7 +3,7 @@ use Rattle.std.specs.Prelude.{◌≡◌, ℕ, List, Some}
 use Rattle.rvs_base.specs.Host.{Files, Tells}
 use Rattle.rvs_plan.specs.declared.status.Status.TheVariants.{Done}
 use Rattle.rvs_words.specs.declared.command.Command.TheVariants.{Compare, Generate}
-use Rattle.rvs_suite.specs.Call.{Call, Asks}
+use Rattle.rvs_promises.specs.Call.{Call, Asks}
 use Rattle.rvs_suite.specs.Promise.{Promise}
 use Rattle.rvs_uses.specs.Comparing as comparing
 use Rattle.rvs_uses.specs.Validating as validating

@@ -18,11 +18,11 @@ use Rattle.rvs_device.specs.Judging.{Spells}
 use Rattle.rvs_device.specs.declared.verdicts.TestVerdict.TheVariants.{Pass}
 use Rattle.rvs_inputs.specs.GroupFiles.{Inputs}
 use Rattle.rvs_generate.specs.TestedInputs.{labels_in}
-use Rattle.rvs_suite.specs.Headline.{IsProved}
+use Rattle.rvs_promises.specs.Headline.{IsProved}
 use Rattle.rvs_suite.specs.Judging.{run_inputs_in}
 use Rattle.rvs_suite.specs.RunLeft.{verdict_by, task_of}
 use Rattle.rvs_run.specs.RunTests.{Bench, RunInputs}
-use Rattle.rvs_suite.specs.Tested.{AreTested}
+use Rattle.rvs_promises.specs.Tested.{AreTested}
 use Rattle.rvs_generate.specs.Tests.{IsRunnable, reference_words, executable_of, tests_of}
 use Rattle.rvs_generate.specs.declared.gathering.Test.{Test}
 use Rattle.rvs_words.specs.declared.command.RunArguments.{RunArguments}

@@ -4,8 +4,8 @@ use Rattle.rvs_base.specs.Host.{Files, Tells}
 use Rattle.rvs_plan.specs.declared.status.Status.TheVariants.{Done, NotPassed, Refused, HostFault}
 use Rattle.rvs_log.specs.Entries.{entries_of}
 use Rattle.rvs_log.specs.Logs.{log_of, as_entry}
-use Rattle.rvs_suite.specs.Call.{Call, world_of, Asks, NothingFailed, HostRose, AnswersOnly}
-use Rattle.rvs_suite.specs.Halting.{BothHalt, HoldsOctets}
+use Rattle.rvs_promises.specs.Call.{Call, world_of, Asks, NothingFailed, HostRose, AnswersOnly}
+use Rattle.rvs_promises.specs.Halting.{BothHalt, HoldsOctets}
 use Rattle.rvs_uses.specs.Refusals.{HasRefused, HasMissed}
 use Rattle.rvs_uses.specs.Halting.{HasRecorded, FirstRefused, FirstMissing}
 use Rattle.rvs_reference.specs.declared.test_run.Run.{Run}

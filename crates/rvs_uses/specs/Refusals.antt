@@ -2,7 +2,7 @@
 use Rattle.std.specs.Prelude.{◌≡◌, List, ℕ, [], codes}
 use Rattle.rvs_base.specs.Sink.{appended}
 use Rattle.rvs_plan.specs.Account.{fault_line}
-use Rattle.rvs_suite.specs.Call.{Call}
+use Rattle.rvs_promises.specs.Call.{Call}
 
 -- a file is refused for this reason, and the sink for errors has the line that says why
 pub record HasRefused (call : Call) (Refuses : List ℕ → Type 0) : Type 0 where

@@ -10,7 +10,7 @@ use Rattle.rvs_isa.specs.Check.{checked}
 use Rattle.rvs_isa.specs.Print.{checked_text, refusal_text}
 use Rattle.rvs_isa.specs.declared.accepted_spec.AcceptedSpec.{AcceptedSpec}
 use Rattle.rvs_isa.specs.declared.refusal.IsaRefusal.{IsaRefusal}
-use Rattle.rvs_suite.specs.Says.{Says}
+use Rattle.rvs_promises.specs.Says.{Says}
 use Rattle.rvs_uses.specs.Limits.{PassesLimit}
 use Rattle.rvs_inputs.specs.Specification.{isa_limit, yaml_text}
 

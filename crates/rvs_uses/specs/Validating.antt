@@ -3,8 +3,8 @@ use Rattle.std.specs.Prelude.{◌≡◌, ◌≢◌, ◌⊎◌, List, ℕ, None}
 use Rattle.rvs_base.specs.Host.{Files, Tells}
 use Rattle.rvs_plan.specs.declared.status.Status.TheVariants.{Done, NotPassed, Refused, HostFault}
 use Rattle.rvs_isa.specs.declared.accepted_spec.AcceptedSpec.{AcceptedSpec}
-use Rattle.rvs_suite.specs.Call.{Call, Asks, NothingFailed, HostRose, AnswersOnly}
-use Rattle.rvs_suite.specs.Says.{Says}
+use Rattle.rvs_promises.specs.Call.{Call, Asks, NothingFailed, HostRose, AnswersOnly}
+use Rattle.rvs_promises.specs.Says.{Says}
 use Rattle.rvs_uses.specs.Refusals.{HasRefused, HasMissed}
 use Rattle.rvs_uses.specs.Says.{IsRefused, IsMissing, Validates}
 use Rattle.rvs_words.specs.declared.command.Command.TheVariants.{Validate}

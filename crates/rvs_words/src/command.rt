@@ -1,6 +1,6 @@
 // What a command line asks for.
 use rvs_abstract::Families;
-use rvs_base::{DemoSize, Items, Text, Window};
+use rvs_base::{DemoSize, Items, Text, Window, release};
 use rvs_parts::Part;
 
 /// A command with what it is given.
@@ -34,6 +34,12 @@ pub enum Command {
     Select(SelectArguments),
     /// Run a generated program of this size, and count its coverage.
     Demo(DemoSize),
+}
+
+/// Lets a command go. How each part of it is let go would be proved once more in a crate that let
+/// it go itself.
+pub fn release_command(command: Command) {
+    release(command)
 }
 
 /// What `compare` is given: two signature files.

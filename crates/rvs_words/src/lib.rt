@@ -17,7 +17,7 @@ mod words;
 pub use command::{
     Command, CompareArguments, CoverageArguments, GenerateArguments, NormalizeArguments,
     PropagateArguments, ReferenceArguments, ReportArguments, RunArguments, RunDatabaseArguments,
-    SelectArguments, SignedLog, ValidateArguments,
+    SelectArguments, SignedLog, ValidateArguments, release_command,
 };
 pub use laws::{commands_are_read, numbers_are_read, options_stand_in_any_order};
 pub use reading::read_command;

@@ -3,11 +3,12 @@ use Rattle.std.proofs.Common.{◌≡◌, ℕ, Bool, true, false, List, [], ◌�
 use Rattle.std.proofs.Common.{length, take}
 use Rattle.std.proofs.Common.{sym, ap, ◌∙◌}
 use Rattle.std.specs.Prelude.{◌||◌, ◌==◌, if◌then◌else◌, Option, Some, None}
+use Rattle.rvs_fault.specs.Answers.{seen}
 use Rattle.rvs_fault.specs.declared.faults.Fault.{Fault}
 use Rattle.rvs_fault.specs.declared.faults.Fault.TheVariants.{Refused}
 use Rattle.rvs_tree.specs.Value.{Value, Written, has_key, explicit_keys}
 use Rattle.rvs_tree.proofs.Sums.{has_key-append, explicit_keys-push}
-use Rattle.rvs_yaml.specs.Checks.{Checked, ◌>>=◌, ◌>>◌, check, succeeds, mapped}
+use Rattle.rvs_yaml.specs.Checks.{Checked, ◌>>=◌, ◌>>◌, check, succeeds}
 use Rattle.rvs_yaml.specs.Gives.{FailsWith}
 use Rattle.rvs_yaml.specs.Entry.{written}
 use Rattle.rvs_yaml.specs.Anchors.{Anchors, lookup, known_alias}
@@ -89,7 +90,7 @@ alias-refused (Some v) false kind h = let same : BadScalar ≡ kind = cc in ap E
 
 -- an alias that isn't found, or behind which something stands, has no value in any form
 pub alias-told : (f : Value → Value) (m n : Checked Value) (ended : Bool) (kind : YamlKind)
-    → n ≡ mapped f m → (m >> check ended BadScalar) ≡ Err kind
+    → n ≡ seen f m → (m >> check ended BadScalar) ≡ Err kind
     → (n >>= λ v. check ended BadScalar >> (let r : Checked Value = Ok v in r)) ≡ Err kind
 alias-told f (Ok v) n true kind e h = cc
 alias-told f (Ok v) n false kind e h =
@@ -100,7 +101,7 @@ alias-told f (Err k) n ended kind e h =
     ∙ (let same : k ≡ kind = cc in ap Err same)
 
 -- another has the value that is found
-pub alias-good : (f : Value → Value) (m n : Checked Value) (ended : Bool) → n ≡ mapped f m
+pub alias-good : (f : Value → Value) (m n : Checked Value) (ended : Bool) → n ≡ seen f m
     → (m >> check ended BadScalar) ≡ Ok tt
     → n ≡ (n >>= λ v. check ended BadScalar >> (let r : Checked Value = Ok v in r))
 alias-good f (Ok v) n true e h =
@@ -139,7 +140,7 @@ placed-refused (b ∷ bs) w kind h = refused-by (is_below b.head w) (opens_block
     (looked_up (known_of (b ∷ bs)) (own_content w.shape)) (begins (b ∷ bs) w)
     (settled (own_found b) b bs w) kind (begins-refused (b ∷ bs) w kind) h
 
-placed-under : (b : Open) (bs : List Open) (w : Word) → is_below b.head w ≡ true
+pub placed-under : (b : Open) (bs : List Open) (w : Word) → is_below b.head w ≡ true
     → placed (b ∷ bs) w ≡ (check (opens_block b.head.sort) Unsupported
     >> looked_up (known_of (b ∷ bs)) (own_content w.shape))
 placed-under b bs w e = rw e refl

@@ -18,6 +18,7 @@ pub mod Tokens
 pub mod Outlined
 pub mod Paying
 pub mod Placing
+pub mod Putting
 pub mod Reaching
 pub mod Rows
 pub mod Seeing

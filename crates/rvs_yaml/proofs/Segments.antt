@@ -202,7 +202,7 @@ Closing m w b = IfSome m (λ o. b ≡ not (is_below (head_view o.head) w))
 closing-true : (b : Bool) → true ≡ not b → b ≡ false
 closing-true b h = grind arith
 
-closing-false : (b : Bool) → false ≡ not b → b ≡ true
+pub closing-false : (b : Bool) → false ≡ not b → b ≡ true
 closing-false b h = grind arith
 
 pushed-last : (bs : List Open) (o : Open) (n : ℕ) → n ≡ length bs

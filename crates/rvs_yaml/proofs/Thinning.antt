@@ -2,6 +2,7 @@
 use Rattle.std.proofs.Common.{◌≡◌, ℕ, Bool, true, false, cond, List, [], ◌∷◌, ◌++◌, map, Option}
 use Rattle.std.proofs.Common.{Some, Ok, refl, sym, ap, ◌∙◌, arith, rules}
 use Rattle.std.specs.Prelude.{◌&&◌, ◌||◌, not, option_map, if◌then◌else◌}
+use Rattle.rvs_fault.specs.Answers.{seen}
 use Rattle.rvs_tree.specs.Data.{Data, scalar, sequence, no_items, items_of}
 use Rattle.rvs_tree.specs.Value.{Value, Written, scalar_value, list_value, map_value, trees, plus}
 use Rattle.rvs_tree.specs.Value.{nodes_from, written_nodes_from, text_nodes, is_map_or_empty}
@@ -11,7 +12,7 @@ use Rattle.rvs_tree.proofs.Sums.{map-append}
 use Rattle.rvs_yaml_text.specs.Word.{Key, Bracket, Token, opening, closing, comma}
 use Rattle.rvs_yaml_text.specs.Word.{colon, scalar_token, key_token, cut_key, colon_scalar}
 use Rattle.rvs_yaml_text.specs.Word.{alias_token, late_colon, fault}
-use Rattle.rvs_yaml.specs.Checks.{Checked, ◌>>=◌, ◌>>◌, mapped}
+use Rattle.rvs_yaml.specs.Checks.{Checked, ◌>>=◌, ◌>>◌}
 use Rattle.rvs_yaml.specs.Anchors.{Anchors, lookup, known_alias, thinned, formed}
 use Rattle.rvs_yaml.specs.Entry.{written}
 use Rattle.rvs_yaml.specs.Flow.{FlowState, member, behind_member, key_place, entry_value}
@@ -97,21 +98,21 @@ abbrev pub thin_reading : Reading → Reading
 thin_reading (open_in good b place outer) = open_in good b (thin_place place) (map thin_level outer)
 thin_reading (whole p) = whole (standin p.0, p.1)
 
-mapped-bind : {A B C : Type 0} (f : B → C) (m : Checked A) (g : A → Checked B)
-    → mapped f (m >>= g) ≡ (m >>= λ x. mapped f (g x))
-mapped-bind = grind arith
+seen-bind : {A B C : Type 0} (f : B → C) (m : Checked A) (g : A → Checked B)
+    → seen f (m >>= g) ≡ (m >>= λ x. seen f (g x))
+seen-bind = grind arith
 
-mapped-then : {A B C : Type 0} (f : B → C) (m : Checked A) (g : Checked B)
-    → mapped f (m >> g) ≡ (m >> mapped f g)
-mapped-then = grind arith
+seen-then : {A B C : Type 0} (f : B → C) (m : Checked A) (g : Checked B)
+    → seen f (m >> g) ≡ (m >> seen f g)
+seen-then = grind arith
 
-bind-mapped : {A B C : Type 0} (f : A → B) (m : Checked A) (g : B → Checked C)
-    → (mapped f m >>= g) ≡ (m >>= λ x. g (f x))
-bind-mapped = grind arith
+bind-seen : {A B C : Type 0} (f : A → B) (m : Checked A) (g : B → Checked C)
+    → (seen f m >>= g) ≡ (m >>= λ x. g (f x))
+bind-seen = grind arith
 
 -- a value comes next
 thin-value : (p : FlowState) (v : Value)
-    → with_value (thin_place p) (standin v) ≡ mapped thin_place (with_value p v)
+    → with_value (thin_place p) (standin v) ≡ seen thin_place (with_value p v)
 thin-value p v = search (rules, map-append)
 
 thin-new : (ws : List Written) (k : Key) → new_key (map thin_written ws) k ≡ new_key ws k
@@ -127,29 +128,29 @@ thin-lookup name [] = refl
 thin-lookup name (a ∷ more) = grind (arith, thin-lookup-by, (thin-lookup name more))
 
 found-alias : (o : Option Value)
-    → known_alias (option_map standin o) ≡ mapped standin (known_alias o)
+    → known_alias (option_map standin o) ≡ seen standin (known_alias o)
 found-alias o = grind arith
 
 thin-known : (name : List ℕ) (known : Anchors)
-    → known_alias (lookup name (thinned known)) ≡ mapped standin (known_alias (lookup name known))
+    → known_alias (lookup name (thinned known)) ≡ seen standin (known_alias (lookup name known))
 thin-known name known = ap known_alias (thin-lookup name known) ∙ found-alias (lookup name known)
 
-same-alias : (o : Option Value) → known_alias o ≡ mapped (formed_value false) (known_alias o)
+same-alias : (o : Option Value) → known_alias o ≡ seen (formed_value false) (known_alias o)
 same-alias o = grind arith
 
 pub formed-alias : (poor : Bool) (name : List ℕ) (known : Anchors)
     → known_alias (lookup name (formed poor known))
-    ≡ mapped (formed_value poor) (known_alias (lookup name known))
+    ≡ seen (formed_value poor) (known_alias (lookup name known))
 formed-alias poor name known = search (rules, same-alias, thin-known)
 
 alias-into : (known : Anchors) (name : List ℕ) (f : Value → FlowState) (g : Value → FlowState)
     → ((v : Value) → f (standin v) ≡ thin_place (g v)) →
     (known_alias (lookup name (thinned known)) >>= λ v. Ok (f v))
-    ≡ mapped thin_place (known_alias (lookup name known) >>= λ v. Ok (g v))
-alias-into known name f g h = grind (arith, thin-known, bind-mapped, bind_same, mapped-bind)
+    ≡ seen thin_place (known_alias (lookup name known) >>= λ v. Ok (g v))
+alias-into known name f g h = grind (arith, thin-known, bind-seen, bind_same, seen-bind)
 
 thin-alias : (known : Anchors) (p : FlowState) (name : List ℕ)
-    → with_alias (thinned known) (thin_place p) name ≡ mapped thin_place (with_alias known p name)
+    → with_alias (thinned known) (thin_place p) name ≡ seen thin_place (with_alias known p name)
 thin-alias known (member vs) [] = refl
 thin-alias known (entry_value ws k) [] = refl
 thin-alias known (member vs) (b ∷ bs) = alias-into known (b ∷ bs) _
@@ -165,27 +166,27 @@ thin-alias known (behind_member vs) (b ∷ bs) = refl
 thin-alias known (behind_entry ws) [] = refl
 thin-alias known (behind_entry ws) (b ∷ bs) = refl
 
-thin-comma : (p : FlowState) → with_comma (thin_place p) ≡ mapped thin_place (with_comma p)
+thin-comma : (p : FlowState) → with_comma (thin_place p) ≡ seen thin_place (with_comma p)
 thin-comma p = grind arith
 
-thin-key : (p : FlowState) (k : Key) → with_key (thin_place p) k ≡ mapped thin_place (with_key p k)
-thin-key p k = search (rules, thin-new, mapped-then)
+thin-key : (p : FlowState) (k : Key) → with_key (thin_place p) k ≡ seen thin_place (with_key p k)
+thin-key p k = search (rules, thin-new, seen-then)
 
 thin-cut : (p : FlowState) (k : Key)
-    → with_cut_key (thin_place p) k ≡ mapped thin_place (with_cut_key p k)
-thin-cut p k = search (rules, thin-new, mapped-then)
+    → with_cut_key (thin_place p) k ≡ seen thin_place (with_cut_key p k)
+thin-cut p k = search (rules, thin-new, seen-then)
 
 thin-colon : (p : FlowState) (b : ℕ)
-    → with_colon_scalar (thin_place p) b ≡ mapped thin_place (with_colon_scalar p b)
+    → with_colon_scalar (thin_place p) b ≡ seen thin_place (with_colon_scalar p b)
 thin-colon p b = grind arith
 
 thin-fault : (p : FlowState) (kind : YamlKind)
-    → with_fault (thin_place p) kind ≡ mapped thin_place (with_fault p kind)
+    → with_fault (thin_place p) kind ≡ seen thin_place (with_fault p kind)
 thin-fault p kind = grind arith
 
 thin-token : (known : Anchors) (line : ℕ) (p : FlowState) (m : Token)
     → with_token (thinned known) line (thin_place p) m
-    ≡ mapped thin_place (with_token known line p m)
+    ≡ seen thin_place (with_token known line p m)
 thin-token known line p (opening b) = refl
 thin-token known line p (closing b) = refl
 thin-token known line p comma = thin-comma p
@@ -202,7 +203,7 @@ thin-open : (p : FlowState) → may_open (thin_place p) ≡ may_open p
 thin-open p = grind arith
 
 thin-closes : (line : ℕ) (p : FlowState)
-    → closed_by true line (thin_place p) ≡ mapped standin (closes line p)
+    → closed_by true line (thin_place p) ≡ seen standin (closes line p)
 thin-closes line (member vs) = ap (λ v. Ok v) (thin-list line vs)
 thin-closes line (behind_member vs) = ap (λ v. Ok v) (thin-list line vs)
 thin-closes line (key_place ws) = ap (λ v. Ok v) (thin-map_value line ws)
@@ -210,17 +211,17 @@ thin-closes line (entry_value ws k) = refl
 thin-closes line (behind_entry ws) = ap (λ v. Ok v) (thin-map_value line ws)
 
 thin-moved : (known : Anchors) (good : Bool) (b : Bracket) (outer : List (Bracket × FlowState))
-    (m : Checked FlowState) → moved good b (map thin_level outer) (mapped thin_place m) ≡ mapped
+    (m : Checked FlowState) → moved good b (map thin_level outer) (seen thin_place m) ≡ seen
     thin_reading (moved good b outer m)
 thin-moved known good b outer m = search (rules, place-fits)
 
 into-by : (good : Bool) (b : Bracket) (outer : List (Bracket × FlowState)) (m : Checked FlowState) →
-    (mapped thin_place m >>= λ next. Ok (open_in (good && fits next) b next (map thin_level outer)))
-    ≡ mapped thin_reading (m >>= λ next. Ok (open_in (good && fits next) b next outer))
+    (seen thin_place m >>= λ next. Ok (open_in (good && fits next) b next (map thin_level outer)))
+    ≡ seen thin_reading (m >>= λ next. Ok (open_in (good && fits next) b next outer))
 into-by good b outer m = search (rules, place-fits)
 
 thin-into : (v : Value) (good : Bool) (outer : List (Bracket × FlowState))
-    → into (standin v, good) (map thin_level outer) ≡ mapped thin_reading (into (v, good) outer)
+    → into (standin v, good) (map thin_level outer) ≡ seen thin_reading (into (v, good) outer)
 thin-into v good [] = refl
 thin-into v good (o ∷ outer) = ap (λ m. m >>= λ next. let r : Checked Reading = Ok
     (open_in (good && fits next) o.0 next (map thin_level outer)) in r) (thin-value o.1 v) ∙ into-by
@@ -228,22 +229,22 @@ thin-into v good (o ∷ outer) = ap (λ m. m >>= λ next. let r : Checked Readin
 
 thin-close : (line : ℕ) (good : Bool) (b c : Bracket) (outer : List (Bracket × FlowState))
     (m : Checked Value) →
-    (mapped standin m >>= λ v. ends_with b (Some c) >> into (v, good) (map thin_level outer))
-    ≡ mapped thin_reading (m >>= λ v. ends_with b (Some c) >> into (v, good) outer)
-thin-close line good b c outer m = search (rules, then_same, thin-into, mapped-then)
+    (seen standin m >>= λ v. ends_with b (Some c) >> into (v, good) (map thin_level outer))
+    ≡ seen thin_reading (m >>= λ v. ends_with b (Some c) >> into (v, good) outer)
+thin-close line good b c outer m = search (rules, then_same, thin-into, seen-then)
 
 first-thin : (b : Bracket) → thin_place (first_place b) ≡ first_place b
 first-thin b = grind arith
 
 thin-opening : (good : Bool) (b c : Bracket) (p : FlowState) (outer : List (Bracket × FlowState)) →
     (may_open (thin_place p) >> (let r : Checked Reading = Ok
-    (open_in good c (first_place c) ((b, thin_place p) ∷ map thin_level outer)) in r)) ≡ mapped
+    (open_in good c (first_place c) ((b, thin_place p) ∷ map thin_level outer)) in r)) ≡ seen
     thin_reading (may_open p >> Ok (open_in good c (first_place c) ((b, p) ∷ outer)))
-thin-opening good b c p outer = simp (thin-open, then_same, first-thin, mapped-then)
+thin-opening good b c p outer = simp (thin-open, then_same, first-thin, seen-then)
 
 thin-step : (known : Anchors) (line : ℕ) (r : Reading) (m : Token)
     → flow_step true (thinned known) line (thin_reading r) m
-    ≡ mapped thin_reading (flow_step false known line r m)
+    ≡ seen thin_reading (flow_step false known line r m)
 thin-step known line (open_in good b p outer) (opening c) = thin-opening good b c p outer
 thin-step known line (open_in good b p outer) (closing c) = simp (thin-closes, thin-close)
 thin-step known line (open_in good b p outer) comma = simp (thin-token, thin-moved)
@@ -269,17 +270,17 @@ thin-step known line (whole v) (fault k) = refl
 
 thin-steps : (known : Anchors) (line : ℕ) (ms : List Token) (r : Reading)
     → flow_steps true (thinned known) line (thin_reading r) ms
-    ≡ mapped thin_reading (flow_steps false known line r ms)
+    ≡ seen thin_reading (flow_steps false known line r ms)
 thin-steps known line [] r = refl
 thin-steps known line (m ∷ ms) r =
     ap (λ n. n >>= λ s. flow_steps true (thinned known) line s ms) (thin-step known line r m)
-    ∙ bind-mapped thin_reading (flow_step false known line r m)
+    ∙ bind-seen thin_reading (flow_step false known line r m)
     (λ s. flow_steps true (thinned known) line s ms)
     ∙ bind_same (flow_step false known line r m) _ _ (λ s. thin-steps known line ms s)
-    ∙ sym (mapped-bind thin_reading (flow_step false known line r m)
+    ∙ sym (seen-bind thin_reading (flow_step false known line r m)
     (λ s. flow_steps false known line s ms))
 
-ended-thin : (r : Reading) → ended (thin_reading r) ≡ mapped standin (ended r)
+ended-thin : (r : Reading) → ended (thin_reading r) ≡ seen standin (ended r)
 ended-thin r = grind arith
 
 first-reading : (b : Bracket) → first_reading b ≡ thin_reading (first_reading b)
@@ -288,6 +289,6 @@ first-reading b = grind arith
 -- Where other values stand for those of the anchors, a collection has the same faults, and else
 -- what stands for its value.
 pub thin-flow : (known : Anchors) (line : ℕ) (b : Bracket) (ms : List Token)
-    → formed_flow true (thinned known) line b ms ≡ mapped standin (flow_value known line b ms)
+    → formed_flow true (thinned known) line b ms ≡ seen standin (flow_value known line b ms)
 thin-flow known line b ms =
-    simp (first-reading, thin-steps, bind-mapped, bind_same, ended-thin, mapped-bind, flow-ended)
+    simp (first-reading, thin-steps, bind-seen, bind_same, ended-thin, seen-bind, flow-ended)

@@ -23,8 +23,3 @@ abbrev pub ◌>>◌ : {A B : Type 0} → Checked A → Checked B → Checked B
 -- whether a check succeeds
 abbrev pub succeeds : {A : Type 0} → Checked A → Checked (Unit {0})
 succeeds m = m >> Ok tt
-
--- what is checked, seen by a function
-abbrev pub mapped : {A B : Type 0} → (A → B) → Checked A → Checked B
-mapped see (Ok x) = Ok (see x)
-mapped see (Err e) = Err e

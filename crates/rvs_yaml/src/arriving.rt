@@ -11,8 +11,10 @@ use crate::chain::{merges, root_of};
 use crate::fill::fill_flow;
 use crate::open::{Block, Done, Open};
 use crate::open_blocks::OpenBlocks;
+use crate::taking::push;
+use rvs_base::{beside, release};
 use rvs_fault::Fault;
-use rvs_tree::{Tree, Value, tree_of};
+use rvs_tree::{Tree, tree_of};
 use rvs_yaml_text::{Bracket, YamlKind};
 use std::alloc::{AllocError, Global};
 use std::collections::BTreeMap;
@@ -41,18 +43,18 @@ fn is_open(arrivals: &Arrivals, blocks: &[Open<'_>]) -> bool {
     }
 }
 
-/// Those that came below maps that are still open.
-fn open_ones(mut all: Vec<Arrivals>, blocks: &[Open<'_>]) -> Result<Vec<Arrivals>, AllocError> {
+/// Lets those go that came below maps that aren't open any more.
+fn keep_open(all: &mut Vec<Arrivals>, blocks: &[Open<'_>]) {
     for _ in 0..all.len() {
-        let Some(arrivals) = all.pop() else {
-            return Ok(all);
+        let open = match all.last() {
+            Some(arrivals) => is_open(arrivals, blocks),
+            None => true,
         };
-        if is_open(&arrivals, blocks) {
-            all.push(arrivals)?;
-            return Ok(all);
+        if open {
+            return;
         }
+        all.pop();
     }
-    Ok(all)
 }
 
 /// No keys yet, below the map at this place.
@@ -68,144 +70,116 @@ fn none_below(alloc: Global, blocks: &[Open<'_>], place: usize) -> Arrivals
     }
 }
 
-/// Those that came below the map at this place, and the others.
-fn those_below(
+/// Begins those below the map at this place, if they aren't the last of all.
+fn begin_below(
     alloc: Global,
-    mut all: Vec<Arrivals>,
+    all: &mut Vec<Arrivals>,
     blocks: &[Open<'_>],
     place: usize,
-) -> Result<(Vec<Arrivals>, Arrivals), AllocError>
+) -> Result<(), AllocError>
     requires { place < length blocks.now }
 {
-    let Some(arrivals) = all.pop() else {
-        return Ok((all, none_below(alloc, blocks, place)));
+    let begun = match all.last() {
+        Some(arrivals) => arrivals.place == place,
+        None => false,
     };
-    if arrivals.place == place {
-        return Ok((all, arrivals));
+    if begun {
+        return Ok(());
     }
-    all.push(arrivals)?;
-    Ok((all, none_below(alloc, blocks, place)))
+    push(all, none_below(alloc, blocks, place))
 }
 
-/// The keys with this one, which came on this line if it wasn't there before.
-fn with_line(
-    mut lines: BTreeMap<String, u64>,
-    key: String,
-    line: u64,
-) -> Result<BTreeMap<String, u64>, AllocError> {
-    if lines.get(key.as_str()).is_some() {
-        return Ok(lines);
-    }
-    lines.insert(key, line)?;
-    Ok(lines)
-}
-
-/// The keys with those of a map. Other trees have none.
-fn with_map(
+/// Adds this key to others, as one that came on this line if it wasn't there before.
+fn add_key(
     alloc: Global,
-    lines: BTreeMap<String, u64>,
+    lines: &mut BTreeMap<String, u64>,
+    key: &str,
+    line: u64,
+) -> Result<(), AllocError> {
+    if lines.get(key).is_none() {
+        lines.insert(String::from_str(alloc, key)?, line)?;
+    }
+    Ok(())
+}
+
+/// Adds the keys of a map. Other trees have none.
+fn add_map(
+    alloc: Global,
+    lines: &mut BTreeMap<String, u64>,
     tree: &Tree,
     line: u64,
-) -> Result<BTreeMap<String, u64>, AllocError> {
-    let mut lines = lines;
+) -> Result<(), AllocError> {
     if tree.is_map() {
         for i in 0..tree.len() {
-            let key = String::from_str(alloc, tree.key(i))?;
-            lines = with_line(lines, key, line)?;
+            add_key(alloc, lines, tree.key(i), line)?;
         }
     }
-    Ok(lines)
+    Ok(())
 }
 
-/// The keys with those of the maps in a list.
-fn with_items(
+/// Adds the keys of a map, or of the maps in a list.
+fn add_tree(
     alloc: Global,
-    lines: BTreeMap<String, u64>,
+    lines: &mut BTreeMap<String, u64>,
     tree: &Tree,
     line: u64,
-) -> Result<BTreeMap<String, u64>, AllocError> {
-    let mut lines = lines;
+) -> Result<(), AllocError> {
     if tree.is_list() {
         for i in 0..tree.len() {
-            lines = with_map(alloc, lines, tree.item(i), line)?;
+            add_map(alloc, lines, tree.item(i), line)?;
         }
+        return Ok(());
     }
-    Ok(lines)
+    add_map(alloc, lines, tree, line)
 }
 
-/// The keys with those that a value brings where it is merged.
-fn with_value(
+/// Adds the keys that the last word brings by itself, where that is merged.
+fn add_own(
     alloc: Global,
-    lines: BTreeMap<String, u64>,
-    value: &Value,
-    line: u64,
-) -> Result<BTreeMap<String, u64>, AllocError> {
-    let tree = tree_of(alloc, value)?;
-    let lines = with_map(alloc, lines, &tree, line)?;
-    with_items(alloc, lines, &tree, line)
-}
-
-/// The keys with those that the last word brings by itself.
-fn with_own(
-    alloc: Global,
-    lines: BTreeMap<String, u64>,
+    lines: &mut BTreeMap<String, u64>,
     top: &Open<'_>,
-) -> Result<BTreeMap<String, u64>, AllocError> {
+) -> Result<(), AllocError> {
     match &top.own {
-        Some(value) => with_value(alloc, lines, value, top.head.line),
-        None => Ok(lines),
-    }
-}
-
-/// The keys with those that the last word brings.
-fn with_word(
-    alloc: Global,
-    lines: BTreeMap<String, u64>,
-    top: &Open<'_>,
-) -> Result<BTreeMap<String, u64>, AllocError> {
-    match &top.block.done {
-        Done::Items(_) => with_own(alloc, lines, top),
-        Done::Entries(pending) => {
-            if pending.key.merges {
-                return with_own(alloc, lines, top);
-            }
-            let key = String::from_str(alloc, pending.key.name.as_str())?;
-            with_line(lines, key, top.head.line)
+        Some(value) => {
+            let tree = tree_of(alloc, value)?;
+            let added = add_tree(alloc, lines, &tree, top.head.line);
+            release(tree);
+            added
         }
-        Done::Alone => with_own(alloc, lines, top),
+        None => Ok(()),
     }
 }
 
-/// The keys that came, with those of the last word.
-fn arrived(
+/// Adds the keys that the last word brings.
+fn add_word(
     alloc: Global,
-    all: Vec<Arrivals>,
-    blocks: &[Open<'_>],
-) -> Result<Vec<Arrivals>, AllocError> {
-    let all = open_ones(all, blocks)?;
+    lines: &mut BTreeMap<String, u64>,
+    top: &Open<'_>,
+) -> Result<(), AllocError> {
+    match &top.block.done {
+        Done::Entries(pending) if !pending.key.merges => {
+            add_key(alloc, lines, pending.key.name.as_str(), top.head.line)
+        }
+        _ => add_own(alloc, lines, top),
+    }
+}
+
+/// Adds those of the last word to the keys that came.
+fn arrive(alloc: Global, all: &mut Vec<Arrivals>, blocks: &[Open<'_>]) -> Result<(), AllocError> {
+    keep_open(all, blocks);
     let Some(top) = blocks.last() else {
-        return Ok(all);
+        return Ok(());
     };
     let end = blocks.len() - 1;
     let root = root_of(blocks, end);
     if root >= end {
-        return Ok(all);
+        return Ok(());
     }
-    let (mut all, arrivals) = those_below(alloc, all, blocks, root)?;
-    let Arrivals {
-        place,
-        line,
-        entries,
-        lines,
-    } = arrivals;
-    let lines = with_word(alloc, lines, top)?;
-    all.push(Arrivals {
-        place,
-        line,
-        entries,
-        lines,
-    })?;
-    Ok(all)
+    begin_below(alloc, all, blocks, root)?;
+    match all.last_mut() {
+        Some(arrivals) => add_word(alloc, &mut arrivals.lines, top),
+        None => Ok(()),
+    }
 }
 
 /// The same blocks, with the keys noted that the last word brings.
@@ -216,17 +190,16 @@ fn noted<'a>(alloc: Global, stack: OpenBlocks<'a>) -> Result<OpenBlocks<'a>, All
     let AnchorList {
         anchors,
         latest,
-        arrivals,
+        mut arrivals,
     } = anchors;
-    let arrivals = arrived(alloc, arrivals, blocks.as_slice())?;
-    Ok(OpenBlocks {
-        blocks,
-        anchors: AnchorList {
-            anchors,
-            latest,
-            arrivals,
-        },
-    })
+    let noted = arrive(alloc, &mut arrivals, blocks.as_slice());
+    let anchors = AnchorList {
+        anchors,
+        latest,
+        arrivals,
+    };
+    let ((), stack) = beside(noted, OpenBlocks { blocks, anchors })?;
+    Ok(stack)
 }
 
 /// Fills in the value of a flow collection, where there is one, and notes the keys of the word.

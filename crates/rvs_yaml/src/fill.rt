@@ -23,7 +23,9 @@ use crate::height::flow_height;
 use crate::known::Known;
 use crate::open::Open;
 use crate::open_blocks::OpenBlocks;
-use crate::taking::{boxed, push};
+use crate::stack::put_own;
+use crate::taking::boxed;
+use rvs_base::beside;
 use rvs_fault::Fault;
 use rvs_tree::{DEEP, Value};
 use rvs_yaml_text::{Bracket, Content, Shape, YamlKind};
@@ -65,8 +67,13 @@ fn check_thin(
     check_nodes(blocks, thin, height)
 }
 
+/// Whether an alias may stand in the text.
+fn has_star(text: &str) -> bool {
+    text.as_bytes().contains(&b'*')
+}
+
 /// Refuses a line for its flow collection or its front, as far as small values in the place of
-/// those of aliases tell it.
+/// those of aliases tell it. Without aliases they don't.
 fn check_paid(
     alloc: Global,
     stack: &OpenBlocks<'_>,
@@ -76,6 +83,9 @@ fn check_paid(
     ensures { Denies result
         (spec.filled (Some (bracket_view bracket, tokens_of text.now)) (open_blocks stack.now)) }
 {
+    if !has_star(text) {
+        return Ok(());
+    }
     let blocks = stack.blocks.as_slice();
     let Some(top) = blocks.last() else {
         return Ok(());
@@ -124,11 +134,6 @@ fn own_with(
     Ok(Some(boxed(alloc, own)?))
 }
 
-/// Whether an alias may stand in the text.
-fn has_star(text: &str) -> bool {
-    text.as_bytes().contains(&b'*')
-}
-
 /// Fills in the value of a flow collection as that of the last word. An alias is counted before
 /// what it stands for is taken.
 fn fill<'a>(
@@ -140,9 +145,7 @@ fn fill<'a>(
     ensures { Passes open_blocks result
         (spec.filled (Some (bracket_view bracket, tokens_of text.now)) (open_blocks stack.entry)) }
 {
-    if has_star(text) {
-        check_paid(alloc, &stack, bracket, text)?;
-    }
+    let ((), stack) = beside(check_paid(alloc, &stack, bracket, text), stack)?;
     let OpenBlocks {
         mut blocks,
         anchors,
@@ -155,18 +158,8 @@ fn fill<'a>(
         head,
         own: _,
     } = top;
-    match own_with(alloc, &anchors, head.line, bracket, text) {
-        Ok(own) => {
-            push(&mut blocks, Open { block, head, own })?;
-            Ok(OpenBlocks { blocks, anchors })
-        }
-        Err(fault) => {
-            drop(block);
-            drop(blocks);
-            drop(anchors);
-            Err(fault)
-        },
-    }
+    let own = own_with(alloc, &anchors, head.line, bracket, text);
+    put_own(blocks, anchors, block, head, own)
 }
 
 /// What stands on a line without its flow collection, and that.

@@ -196,7 +196,10 @@ fn closes(alloc: Global, line: u64, place: FlowState) -> Result<Value, Fault<Yam
         FlowState::KeyPlace(list) | FlowState::BehindEntry(list) => {
             Ok(map_value(alloc, line, list)?)
         },
-        _ => Err(Fault::Refused(YamlKind::BadFlow)),
+        FlowState::EntryValue(pending) => {
+            release(pending);
+            Err(Fault::Refused(YamlKind::BadFlow))
+        },
     }
 }
 
@@ -229,7 +232,9 @@ fn closed_by(
     ensures refused { FailsWith result (steps_spec.closed_by poor line (place_view place)) }
 {
     if poor {
-        thin_closes(alloc, line, &place)
+        let thin = thin_closes(alloc, line, &place);
+        release(place);
+        thin
     } else {
         closes(alloc, line, place)
     }

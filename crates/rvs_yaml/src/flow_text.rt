@@ -1,10 +1,10 @@
 // The text of flow collections.
 ghost use Rattle.std.specs.Prelude.{◌≡◌, ◌<◌, true, false, length, drop, slice_index};
+ghost use Rattle.rvs_fault.specs.Answers.{seen};
 ghost use Rattle.rvs_yaml_text.specs.Tokens as spec;
 ghost use Rattle.rvs_yaml.specs.Flow as flow_spec;
 ghost use Rattle.rvs_yaml.specs.TokenParts as parts;
 ghost use Rattle.rvs_yaml.specs.FlowParts as flow_parts;
-ghost use Rattle.rvs_yaml.specs.Checks.{mapped};
 ghost use Rattle.rvs_tree.specs.Standin.{standin};
 ghost use Rattle.rvs_yaml.specs.Gives.{Gives};
 ghost use Rattle.rvs_yaml.specs.StackView.{all_known, known_view};
@@ -17,6 +17,7 @@ ghost use Rattle.rvs_yaml.specs.FlowView.{reading_view, flowing_view};
 use crate::flow::{flow_end, flow_step, new_reading};
 use crate::known::Known;
 use crate::reading::{Flowing, Reading};
+use rvs_base::beside;
 use rvs_fault::Fault;
 use rvs_tree::Value;
 use rvs_yaml_text::{Bracket, Token, YamlKind, behind_first, closes, next_token, starts_with};
@@ -59,7 +60,7 @@ fn behind_token<'a>(
     token: Token<'a>,
     behind: &'a str,
 ) -> Result<Flowing<'a>, Fault<YamlKind>>
-    ensures { Gives flowing_view result (mapped
+    ensures { Gives flowing_view result (seen
         (λ r. parts.flowing r (spec.closes (token_view token.entry)) false behind.entry.now)
         (steps_spec.flow_step known.now.poor (known_view known.now) line (reading_view reading)
         (token_view token.entry))) }
@@ -88,7 +89,8 @@ fn next_flowing<'a>(
     if starts_with(b' ', flowing.rest.as_bytes()) {
         return Ok(behind_space(flowing));
     }
-    let (token, behind) = next_token(alloc, flowing.closed, flowing.rest)?;
+    let token = next_token(alloc, flowing.closed, flowing.rest);
+    let ((token, behind), flowing) = beside(token, flowing)?;
     behind_token(alloc, known, line, flowing.reading, token, behind)
 }
 
@@ -146,7 +148,7 @@ pub(crate) fn thin_flow_value(
     text: &str,
 ) -> Result<Value, Fault<YamlKind>>
     requires { known.now.poor ≡ true }
-    ensures { Gives value_view result (mapped standin (flow_spec.flow_value (all_known known.now)
+    ensures { Gives value_view result (seen standin (flow_spec.flow_value (all_known known.now)
         line (bracket_view bracket) (spec.tokens_of text.now))) }
 {
     flow_form(alloc, known, line, bracket, text)

@@ -26,6 +26,7 @@ use crate::reach::may_be_deep;
 use crate::reading::Pending;
 use crate::sketch::Sketch;
 use crate::stack::check_merge;
+use rvs_base::{beside, release};
 use rvs_fault::Fault;
 use rvs_tree::{
     DEEP, EntryList, Tree, Value, ValueList, Written, into_tree, list_value, map_value, plus,
@@ -331,8 +332,8 @@ fn longer_list(alloc: Global, line: u64, values: &[Value], last: Value) -> Resul
     ensures { IfOk result (λ v. value_view v
         ≡ value_spec.list_value line (values_view values.now ++ value_view last ∷ [])) }
 {
-    let list = copied_values(alloc, values)?.with(alloc, last)?;
-    list_value(alloc, line, list)
+    let (list, last) = beside(copied_values(alloc, values), last)?;
+    list_value(alloc, line, list.with(alloc, last)?)
 }
 
 /// The value of a map with one entry more.
@@ -346,9 +347,9 @@ fn longer_map(
     ensures { IfOk result (λ v. value_view v ≡ value_spec.map_value line
         (entries_view entries.now ++ written (key_view key.now) (value_view value) ∷ [])) }
 {
-    let key = copied_key(alloc, key)?;
-    let list = copied_entries(alloc, entries)?.with(alloc, entry_of(key, value))?;
-    map_value(alloc, line, list)
+    let (key, value) = beside(copied_key(alloc, key), value)?;
+    let (list, entry) = beside(copied_entries(alloc, entries), entry_of(key, value))?;
+    map_value(alloc, line, list.with(alloc, entry)?)
 }
 
 /// The value of a block with its open member.
@@ -361,7 +362,10 @@ fn closed_copy(alloc: Global, block: &Block, value: Value) -> Result<Value, Faul
     match &block.done {
         Done::Items(list) => Ok(longer_list(alloc, block.line, list.values.as_slice(), value)?),
         Done::Entries(pending) => {
-            check_merge(&pending.key, &value)?;
+            if let Err(kind) = check_merge(&pending.key, &value) {
+                release(value);
+                return Err(Fault::Refused(kind));
+            }
             let entries = pending.list.entries.as_slice();
             Ok(longer_map(alloc, block.line, entries, &pending.key, value)?)
         }

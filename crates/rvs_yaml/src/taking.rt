@@ -16,3 +16,11 @@ pub(crate) fn push<T: Drop>(items: &mut Vec<T>, item: T) -> Result<(), AllocErro
 {
     Ok(items.push(item)?)
 }
+
+/// The items with one more behind them.
+pub(crate) fn pushed<T: Drop>(mut items: Vec<T>, item: T) -> Result<Vec<T>, AllocError>
+    ensures { IfOk result (λ all. all.items ≡ items.items ++ item ∷ []) }
+{
+    push(&mut items, item)?;
+    Ok(items)
+}

@@ -6,7 +6,7 @@ use Rattle.rvs_plan.specs.Account.{Told}
 use Rattle.rvs_plan.specs.Codes.{code_of}
 use Rattle.rvs_plan.specs.declared.status.Status.{Status}
 use Rattle.rvs_plan.specs.declared.stop.Stop.TheVariants.{NoMemory}
-use Rattle.rvs_suite.specs.Call.{Outside, call}
+use Rattle.rvs_promises.specs.Call.{Outside, call}
 use Rattle.rvs_suite.specs.Promise.{Promise}
 
 abbrev pub outside : HostState → SinkState → SinkState → Outside

@@ -18,14 +18,14 @@ returns-in_err-made-clause-met g c = λ out.
 pub returns-clause-met : goal.returns-clause-met
 returns-clause-met g c = λ out.
     let old = world (g.H.Host.state c.args.host.now) out in
-    let new = world (g.H.Host.state c.write_text.new.host) out in
-    let result = c.write_text.result in
+    let new = world (g.H.Host.state c.write_text-written.new.host) out in
+    let result = c.write_text-written.result in
     subst (λ (text : Option (List ℕ)). Meets
     (writes_text (path_of c.args.work.now c.args.label.now.name) text) old new result)
-    c.in_ok-made.ensures.made.text (c.write_text.ensures out)
+    c.in_ok-made.ensures.made.text (c.write_text-written.ensures out)
 
 pub returns-clause-text : goal.returns-clause-text
-returns-clause-text g c = OnOk-always _ c.write_text.result c.in_ok-made.ensures.text
+returns-clause-text g c = OnOk-always _ c.write_text-written.result c.in_ok-made.ensures.text
 
 pub returns-clause-totals : goal.returns-clause-totals
-returns-clause-totals g c = OnOk-always _ c.write_text.result c.in_ok-made.ensures.totals
+returns-clause-totals g c = OnOk-always _ c.write_text-written.result c.in_ok-made.ensures.totals

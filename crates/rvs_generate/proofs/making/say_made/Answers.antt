@@ -1,4 +1,4 @@
-use Rattle.std.proofs.Common.{◌≡◌, ◌++◌, ◌∙◌, List, ℕ, ap}
+use Rattle.std.proofs.Common.{◌≡◌, ◌++◌, ◌∙◌, List, ℕ, ap, sym, subst}
 use Rattle.rvs_insn.specs.Isa.{Isa}
 use Rattle.rvs_cgf.specs.Groups.{Label}
 use Rattle.rvs_cgf.specs.GroupView.{label_view}
@@ -17,10 +17,14 @@ totals_are : (isa : Isa) (l : Label) (m : Made) (t : Totals) → IsMade isa l m
 totals_are isa l m t is = λ i. with_made t l (is.claims i) (is.unsolved i) (is.text i)
 
 pub returns-clause-text : goal.returns-clause-text
-returns-clause-text c = c.in_ok-push_made.ensures ∙ ap (λ (t : List ℕ). c.args.said.now.text ++ t)
-    (text_is c.args.isa.now (label_view c.args.label.now) c.in_ok-made.made
-    c.in_ok-made.ensures)
+returns-clause-text c =
+    let pushed = rw c.in_ok-made-2.ensures.both.0 at c.push_made.ensures in
+    pushed ∙ ap (λ (t : List ℕ). c.args.said.now.text ++ t)
+    (text_is c.args.isa.now (label_view c.args.label.now) c.in_ok-made.made c.in_ok-made.ensures)
 
 pub returns-clause-totals : goal.returns-clause-totals
-returns-clause-totals c = c.add.ensures ∙ totals_are c.args.isa.now (label_view c.args.label.now)
-    c.in_ok-made.made _ c.in_ok-made.ensures
+returns-clause-totals c =
+    let isa = c.args.isa.now in
+    let l = label_view c.args.label.now in
+    c.add.ensures ∙ totals_are isa l c.in_ok-made-2.made _ (subst (λ (m : Made). IsMade isa l m)
+    (sym c.in_ok-made-2.ensures.both.1) c.in_ok-made.ensures)

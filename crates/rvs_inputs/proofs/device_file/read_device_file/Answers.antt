@@ -1,10 +1,10 @@
 use Rattle.std.proofs.Common.{List, ℕ, subst}
 use Rattle.std.proofs.lemmas.Result.{err_from_is_err_and}
+use Rattle.rvs_fault.specs.Answers.{seen}
 use Rattle.rvs_plan.specs.World.{world}
 use Rattle.rvs_plan.specs.Meets.{Meets}
 use Rattle.rvs_plan.proofs.Sequence.{Meets-then, Meets-stop}
 use Rattle.rvs_device.specs.DeviceView.{told}
-use Rattle.rvs_inputs.specs.Seen.{seen}
 use Rattle.rvs_inputs.specs.DeviceInput.{checks}
 use Rattle.rvs_inputs.proofs.device_file.read_device_file.Goals as goal
 

@@ -1,9 +1,9 @@
 use Rattle.std.proofs.lemmas.Result.{err_from_is_err_and}
+use Rattle.rvs_fault.specs.Answers.{seen}
 use Rattle.rvs_plan.specs.World.{world}
 use Rattle.rvs_plan.specs.Plan.{Ends}
 use Rattle.rvs_plan.proofs.Sequence.{Meets-then, Meets-stop}
 use Rattle.rvs_cgf.specs.Print.{normal_text}
-use Rattle.rvs_inputs.specs.Seen.{seen}
 use Rattle.rvs_inputs.specs.GroupFiles.{groups_found}
 use Rattle.rvs_plain.proofs.normalizing.read_normal_files.Goals as goal
 

@@ -1,13 +1,12 @@
 use Rattle.std.proofs.Common.{◌≡◌, ◌∙◌, Ok, ap, refl, sym, subst}
 use Rattle.std.proofs.lemmas.Result.{err_from_is_err_and}
-use Rattle.rvs_fault.specs.Answers.{AnswersAs}
+use Rattle.rvs_fault.specs.Answers.{AnswersAs, seen}
 use Rattle.rvs_plan.specs.Plan.{Ends}
 use Rattle.rvs_plan.specs.Meets.{Meets}
 use Rattle.rvs_tree.specs.TreeView.{view}
 use Rattle.rvs_yaml.specs.Parsed.{Parsed, answer}
 use Rattle.rvs_yaml.specs.Refusing.{refusal_text, refusal_view}
 use Rattle.rvs_cgf.specs.Print.{normal_text}
-use Rattle.rvs_inputs.specs.Seen.{seen}
 use Rattle.rvs_inputs.specs.GroupFiles.{tree_groups}
 use Rattle.rvs_inputs.specs.GroupTexts.{groups_name}
 use Rattle.rvs_inputs.proofs.Accepting.{accepted-is, Meets-unaccepted}

@@ -1,4 +1,5 @@
 use Rattle.std.proofs.Common.{◌≡◌, ℕ, List, Result, Ok, Err, refl, subst}
+use Rattle.rvs_fault.specs.Answers.{seen}
 use Rattle.rvs_plan.specs.Plan.{Ends}
 use Rattle.rvs_plan.specs.Meets.{Meets}
 use Rattle.rvs_plan.specs.Refusing.{end_at}
@@ -7,7 +8,6 @@ use Rattle.rvs_tree.specs.TreeView.{view}
 use Rattle.rvs_cgf.specs.GroupView.{refusal_view}
 use Rattle.rvs_cgf.specs.Groups.{Found, Label, groups_of, ◌>>=◌}
 use Rattle.rvs_cgf.specs.Print.{normal_text, refusal_text}
-use Rattle.rvs_inputs.specs.Seen.{seen}
 use Rattle.rvs_inputs.specs.GroupFiles.{checked_groups}
 use Rattle.rvs_inputs.specs.GroupTexts.{groups_name}
 use Rattle.rvs_inputs.proofs.Accepting.{Meets-stops_as}

@@ -41,7 +41,7 @@ returns g c = λ out.
     let found = c.in_ok-found.found in
     let w = world (g.H.Host.state c.find_test.new.host) out in
     let shown = shown_label found text counts claims l in
-    let is : c.in_ok-shown.shown ≡ shown = c.in_ok-shown.ensures
+    let is : c.in_ok-shown.field-0 ≡ shown = c.in_ok-shown.ensures
     ∙ ap (λ (bytes : List ℕ). shown_label found bytes counts claims l)
     (c.as_bytes-text.ensures.value ∙ c.as_str.ensures) in
     Meets-then (next text counts claims l) (c.in_ok-found.ensures out)

@@ -24,7 +24,7 @@ returns c = λ w.
     let claims = c.args.claims.now in
     let l = label_view c.args.label.now in
     let shown = shown_label (found_open state.NoTest) [] counts claims l in
-    let is : c.in_ok-shown.shown ≡ shown = c.in_ok-shown.ensures
+    let is : c.in_ok-shown.field-0 ≡ shown = c.in_ok-shown.ensures
     ∙ ap (λ (f : Found). shown_label f [] counts claims l) c.found_open-found.ensures in
     subst (λ (s : ShownLabel). MeetsWith IsAnswer (gives shown) w w (Ok s)) (sym is)
     (Meets-gives shown w)

@@ -1,4 +1,4 @@
-use Rattle.std.proofs.Common.{◌≡◌, ◌<◌, ◌≤◌, ◌+◌, ℕ, nat_lt, List, Some, Ok, length, sym, ◌∙◌}
+use Rattle.std.proofs.Common.{◌≡◌, ◌<◌, ◌≤◌, ◌+◌, ℕ, nat_lt, List, Some, Ok, length, sym, ap, ◌∙◌}
 use Rattle.std.proofs.lemmas.Bool.{cond-true, cond-false, lt-ltb, le-ltb}
 use Rattle.std.proofs.lemmas.Result.{err_from_is_err_and}
 use Rattle.rvs_plan.specs.World.{world}
@@ -30,22 +30,23 @@ returns-in_err-file g c = λ out.
     rw (p.1, p.2) (Meets-no_memory (finds_signature c.args.name.now c.args.words)
     (world (g.H.Host.state c.args.host.now) out))
 
-pub returns-in_err-judge_left-in-Ok : goal.returns-in_err-judge_left-in-Ok
-returns-in_err-judge_left-in-Ok g c = λ out.
-    let p = err_from_is_err_and c.from_residual-in_err-judge_left-in-Ok.result
-    c.from_residual-in_err-judge_left-in-Ok.ensures.1 in
+pub returns-in_err-judged-in-Ok : goal.returns-in_err-judged-in-Ok
+returns-in_err-judged-in-Ok g c = λ out.
+    let p = err_from_is_err_and c.from_residual-in_err-judged-in-Ok.result
+    c.from_residual-in_err-judged-in-Ok.ensures.1 in
     rw (p.1, p.2) (Meets-weaker (asks-no_memory out c.args.name.now (signature_limit + 1)
     (λ found. gives (found_on c.args.words found)) c.in-Ok.ensures.reads_only
     c.in-Ok.ensures.unfaulted c.in-Ok.ensures.at_most))
 
-pub returns-in-Ok : goal.returns-in-Ok
-returns-in-Ok g c = λ out.
+pub returns-in_ok-judged-in-Ok : goal.returns-in_ok-judged-in-Ok
+returns-in_ok-judged-in-Ok g c = λ out.
     let words = c.args.words in
     let bytes = c.in-Ok.bytes in
     let whole = rw c.as_str-2.ensures at c.in-Ok.ensures.whole in
     made-whole out c.args.name.now signature_limit (found_on words) bytes _
     c.in-Ok.ensures.reads_only whole
-    (within words bytes whole.within ∙ sym c.in_ok-judge_left-in-Ok.ensures)
+    (within words bytes whole.within ∙ ap (judged_left words) (sym c.as_slice.ensures)
+    ∙ sym c.in_ok-judged-in-Ok.ensures)
     c.in-Ok.ensures.unfaulted c.in-Ok.ensures.at_most
 
 pub returns-in-Err-NoFile : goal.returns-in-Err-NoFile
@@ -72,8 +73,8 @@ returns-in-Err-Failed g c = λ out.
     (rw c.in-Err-Failed.field-0-is at c.in-Err-Failed.ensures.refused)
     c.in-Err-Failed.ensures.at_most))
 
-pub returns : goal.returns
-returns g c = λ out.
+pub returns-in-Err-NoMemory : goal.returns-in-Err-NoMemory
+returns-in-Err-NoMemory g c = λ out.
     Meets-weaker (asks-no_memory out c.args.name.now (signature_limit + 1)
     (λ found. gives (found_on c.args.words found)) c.in-Err-NoMemory.ensures.reads_only
     (rw c.in-Err-NoMemory.field-0-is at c.in-Err-NoMemory.ensures.refused)

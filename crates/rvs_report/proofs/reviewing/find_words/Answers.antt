@@ -56,37 +56,37 @@ returns-in_err-text g c = λ out.
     (finds_words c.args.files.now c.args.isa c.args.test.now)
     (world (g.H.Host.state c.args.host.now) out))
 
-pub returns-in_err-read_like : goal.returns-in_err-read_like
-returns-in_err-read_like g c = λ out.
-    let p = err_from_is_err_and c.from_residual-in_err-read_like.result
-    c.from_residual-in_err-read_like.ensures.1 in
+pub returns-in_err-read : goal.returns-in_err-read
+returns-in_err-read g c = λ out.
+    let p = err_from_is_err_and c.from_residual-in_err-read.result
+    c.from_residual-in_err-read.ensures.1 in
     let files = c.args.files.now in
     let words = c.in_ok-words.words in
     let text : c.as_bytes.result.now ≡ text_of_words words =
     c.as_bytes.ensures.value ∙ c.as_str.ensures ∙ c.in_ok-text.ensures.text
     ∙ ap text_of_words c.as_slice.ensures in
     rw (p.1, p.2) (by_words files c.args.isa c.args.test.now words _ _ _ c.in_ok-words.ensures
-    (Meets-stop (next files words) (rw text at (c.in_err-read_like.ensures out))))
+    (Meets-stop (next files words) (rw text at (c.in_err-read.ensures out))))
 
 pub returns-in-Absent : goal.returns-in-Absent
 returns-in-Absent g c = λ out.
     let files = c.args.files.now in
     let words = c.in_ok-words.words in
-    let w = world (g.H.Host.state c.read_like.new.host) out in
+    let w = world (g.H.Host.state c.read_like-read.new.host) out in
     let text : c.as_bytes.result.now ≡ text_of_words words =
     c.as_bytes.ensures.value ∙ c.as_str.ensures ∙ c.in_ok-text.ensures.text
     ∙ ap text_of_words c.as_slice.ensures in
     let last = subst (λ (found : Found). MeetsWith IsAnswer (gives (found_open state.NotRun)) w w
     (Ok found)) (sym c.found_open.ensures) (Meets-gives (found_open state.NotRun) w) in
     by_words files c.args.isa c.args.test.now words _ _ _ c.in_ok-words.ensures
-    (Meets-then (next files words) (rw (text, c.in-Absent.is) at (c.in_ok-read_like.ensures out))
+    (Meets-then (next files words) (rw (text, c.in-Absent.is) at (c.in_ok-read.ensures out))
     last)
 
 pub returns-in-Other : goal.returns-in-Other
 returns-in-Other g c = λ out.
     let files = c.args.files.now in
     let words = c.in_ok-words.words in
-    let w = world (g.H.Host.state c.read_like.new.host) out in
+    let w = world (g.H.Host.state c.read_like-read.new.host) out in
     let text : c.as_bytes.result.now ≡ text_of_words words =
     c.as_bytes.ensures.value ∙ c.as_str.ensures ∙ c.in_ok-text.ensures.text
     ∙ ap text_of_words c.as_slice.ensures in
@@ -94,7 +94,7 @@ returns-in-Other g c = λ out.
     (Ok found)) (sym c.found_open-in-Other.ensures)
     (Meets-gives (found_open state.OtherTest) w) in
     by_words files c.args.isa c.args.test.now words _ _ _ c.in_ok-words.ensures
-    (Meets-then (next files words) (rw (text, c.in-Other.is) at (c.in_ok-read_like.ensures out))
+    (Meets-then (next files words) (rw (text, c.in-Other.is) at (c.in_ok-read.ensures out))
     last)
 
 pub returns-in-Same : goal.returns-in-Same
@@ -105,5 +105,5 @@ returns-in-Same g c = λ out.
     c.as_bytes.ensures.value ∙ c.as_str.ensures ∙ c.in_ok-text.ensures.text
     ∙ ap text_of_words c.as_slice.ensures in
     by_words files c.args.isa c.args.test.now words _ _ _ c.in_ok-words.ensures
-    (Meets-then (next files words) (rw (text, c.in-Same.is) at (c.in_ok-read_like.ensures out))
+    (Meets-then (next files words) (rw (text, c.in-Same.is) at (c.in_ok-read.ensures out))
     (c.find_signature.ensures out))

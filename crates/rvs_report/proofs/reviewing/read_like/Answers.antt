@@ -22,9 +22,9 @@ pub returns-in-Ok : goal.returns-in-Ok
 returns-in-Ok g c = λ out.
     let expected = c.args.expected.now in
     let is = ap (λ (bytes : List ℕ). likeness expected (Some bytes)) (sym c.as_slice.ensures)
-    ∙ sym c.like.ensures in
+    ∙ sym c.like-found.ensures in
     made-whole out c.args.name.now (length expected) (likeness expected) c.in-Ok.bytes
-    c.like.result c.in-Ok.ensures.reads_only
+    c.like-found.result c.in-Ok.ensures.reads_only
     (rw c.as_str-2.ensures at c.in-Ok.ensures.whole) is c.in-Ok.ensures.unfaulted
     c.in-Ok.ensures.at_most
 

@@ -1,8 +1,7 @@
 use Rattle.std.proofs.lemmas.Result.{err_from_is_err_and}
 use Rattle.rvs_plan.proofs.Sequence.{Meets-then, Meets-stop, Meets-weaker}
-use Rattle.rvs_run.specs.RunTests.{announces, announces_made}
+use Rattle.rvs_run.specs.RunTests.{announces_made}
 use Rattle.rvs_run.specs.RunView.{bench_view}
-use Rattle.rvs_generate.specs.Tests.{source_name}
 use Rattle.rvs_run.proofs.judging.judge_one.Goals as goal
 
 pub returns-in_err-made : goal.returns-in_err-made
@@ -12,22 +11,8 @@ returns-in_err-made g c =
     rw (p.1, p.2) (Meets-weaker (Meets-stop
     (announces_made (bench_view c.args.bench.now) c.args.source.now) (c.in_err-made.ensures out)))
 
-pub returns-in_err-verdict : goal.returns-in_err-verdict
-returns-in_err-verdict g c =
-    let out = g.O.Sink.state c.args.out.now in
-    let source = c.args.source.now in
-    let p = err_from_is_err_and c.from_residual-in_err-verdict.result
-    c.from_residual-in_err-verdict.ensures.1 in
-    rw (p.1, p.2) (Meets-then (announces_made (bench_view c.args.bench.now) source)
-    (Meets-weaker (c.in_ok-made.ensures out))
-    (Meets-stop (announces (source_name source)) (c.in_err-verdict.ensures out)))
-
 pub returns : goal.returns
 returns g c =
     let out = g.O.Sink.state c.args.out.now in
-    let source = c.args.source.now in
-    let put =
-    rw c.name_of.ensures at (c.print_verdict.ensures (g.H.Host.state c.judge_made.new.host)) in
-    Meets-then (announces_made (bench_view c.args.bench.now) source)
-    (Meets-weaker (c.in_ok-made.ensures out))
-    (Meets-then (announces (source_name source)) (c.in_ok-verdict.ensures out) (Meets-weaker put))
+    Meets-then (announces_made (bench_view c.args.bench.now) c.args.source.now)
+    (Meets-weaker (c.in_ok-made.ensures out)) c.announce_made-ended.ensures

@@ -1,74 +1,34 @@
-use Rattle.std.proofs.Common.{◌≡◌, ℕ, List, None, Result, Ok, Err, sym, ap, subst, ◌∙◌}
+use Rattle.std.proofs.Common.{◌≡◌, List, ℕ, ap, sym, ◌∙◌, subst, Result, Ok, Err}
 use Rattle.std.proofs.lemmas.Result.{err_from_is_err_and}
 use Rattle.rvs_plan.specs.declared.stop.Stop.{Stop}
-use Rattle.rvs_insn.specs.Isa.{Isa}
-use Rattle.rvs_machine.specs.Image.{ImageValue}
-use Rattle.rvs_run.specs.RunView.{bench_view}
-use Rattle.rvs_run.specs.RunTests.{made_by, made_of_image}
-use Rattle.rvs_reference.specs.TestRun.{Accepts, then_found, image_found, limit_of, run_found}
-use Rattle.rvs_reference.specs.declared.test_run.Run.{Run}
-use Rattle.rvs_generate.proofs.Runnable.{first-stops}
+use Rattle.rvs_fault.specs.Answers.{seen}
+use Rattle.rvs_reference.specs.TestRun.{Accepts}
+use Rattle.rvs_generate.specs.declared.test_files.TestFiles.{TestFiles}
+use Rattle.rvs_run.specs.declared.judging.Found.{Found}
+use Rattle.rvs_run.specs.declared.judging.Made.{Made}
+use Rattle.rvs_run.specs.RunTests.{made_found}
+use Rattle.rvs_run.specs.RunView.{bench_view, made_with}
 use Rattle.rvs_run.proofs.judging.made_found.Goals as goal
 
--- the calls were given the name of the file, and the limit of its bytes
-image-by : (isa : Isa) (bytes one name : List ℕ) (result : Result ImageValue Stop) → one ≡ name
-    → Accepts (image_found isa one bytes) result → Accepts (image_found isa name bytes) result
-image-by isa bytes one name result named =
-    subst (λ (n : List ℕ). Accepts (image_found isa n bytes) result) named
+-- what was found has its files beside it
+with-files : (found : Result Made (List ℕ)) (files : TestFiles) (result end : Result Found Stop)
+    → result ≡ end → Accepts found (seen (made_with files) result)
+    → Accepts found (seen (made_with files) end)
+with-files found files result end is =
+    subst (λ (r : Result Found Stop). Accepts found (seen (made_with files) r)) is
 
-ran-by : (isa : Isa) (image : ImageValue) (bytes one other name : List ℕ) (limit : ℕ)
-    (result : Result Run Stop) → one ≡ name → other ≡ name → limit ≡ limit_of None one bytes
-    → Accepts (run_found other limit isa image) result
-    → Accepts (run_found name (limit_of None name bytes) isa image) result
-ran-by isa image bytes one other name limit result named called limited =
-    subst (λ (f : Result Run (List ℕ)). Accepts f result) (λ i. run_found (called i)
-    ((limited ∙ ap (λ (n : List ℕ). limit_of None n bytes) named) i) isa image)
-
-pub returns-in_err-image : goal.returns-in_err-image
-returns-in_err-image c =
-    let isa = c.args.bench.now.isa in
-    let files = c.args.files in
-    let bytes = c.args.bytes.now in
-    let stop = c.in_err-image.field-0.0 in
+pub returns-in_err-found : goal.returns-in_err-found
+returns-in_err-found c =
     let p = err_from_is_err_and c.from_residual.result c.from_residual.ensures.1 in
-    rw (p.1, p.2) (first-stops (image_found isa files.test bytes)
-    (made_of_image (bench_view c.args.bench.now) files bytes) stop
-    (image-by isa bytes c.as_str.result.now files.test (Err stop) c.as_str.ensures
-    c.in_err-image.ensures))
-
-pub returns-in_err-run : goal.returns-in_err-run
-returns-in_err-run c =
-    let bench = bench_view c.args.bench.now in
     let files = c.args.files in
-    let bytes = c.args.bytes.now in
-    let image = c.in_ok-image.image in
-    let stop = c.in_err-run.field-0.0 in
-    let p = err_from_is_err_and c.from_residual-in_err-run.result
-    c.from_residual-in_err-run.ensures.1 in
-    rw (p.1, p.2) (subst (λ (f : Result ImageValue (List ℕ)). Accepts (then_found f
-    (made_of_image bench files bytes)) (Err stop)) (sym (image-by bench.isa bytes
-    c.as_str.result.now files.test (Ok image) c.as_str.ensures c.in_ok-image.ensures))
-    (first-stops (run_found files.test (limit_of None files.test bytes) bench.isa image)
-    (λ run. Ok (made_by bench files image run)) stop (ran-by bench.isa image bytes
-    c.as_str-2.result.now c.as_str-3.result.now files.test c.limit_of-limit.result (Err stop)
-    c.as_str-2.ensures c.as_str-3.ensures c.limit_of-limit.ensures c.in_err-run.ensures)))
+    rw (p.1, p.2) (with-files
+    (made_found (bench_view c.args.bench.now) files c.args.bytes.now) files c.found_of.result
+    (Err c.in_err-found.field-0.0) c.in_err-found.ensures.none c.found_of.ensures)
 
 pub returns : goal.returns
 returns c =
-    let bench = bench_view c.args.bench.now in
     let files = c.args.files in
-    let bytes = c.args.bytes.now in
-    let image = c.in_ok-image.image in
-    let run = c.in_ok-run.run' in
-    ap (λ (f : Result ImageValue (List ℕ)). then_found f (made_of_image bench files bytes))
-    (image-by bench.isa bytes c.as_str.result.now files.test (Ok image) c.as_str.ensures
-    c.in_ok-image.ensures)
-    ∙ ap (λ (f : Result Run (List ℕ)). then_found f (λ r. Ok (made_by bench files image r)))
-    (ran-by bench.isa image bytes c.as_str-2.result.now c.as_str-3.result.now files.test
-    c.limit_of-limit.result (Ok run) c.as_str-2.ensures c.as_str-3.ensures
-    c.limit_of-limit.ensures c.in_ok-run.ensures)
-    ∙ (λ k. Ok (record {
-      files = files;
-      executable = sym c.in_ok-executable.ensures k;
-      words = run.words;
-    }))
+    let found = c.in_ok-found.found in
+    with-files (made_found (bench_view c.args.bench.now) files c.args.bytes.now) files
+    c.found_of.result (Ok found) c.in_ok-found.ensures.both.0 c.found_of.ensures
+    ∙ ap (λ (f : TestFiles). Ok (made_with f found)) (sym c.in_ok-found.ensures.both.1)

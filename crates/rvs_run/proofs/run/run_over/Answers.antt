@@ -1,4 +1,4 @@
-use Rattle.std.proofs.Common.{◌≡◌, ◌∙◌, List, subst, rules}
+use Rattle.std.proofs.Common.{◌≡◌, ◌∙◌, ap, subst, rules}
 use Rattle.std.proofs.lemmas.Result.{err_from_is_err_and}
 use Rattle.rvs_plan.specs.World.{world, IsAnswer}
 use Rattle.rvs_plan.specs.Plan.{Plan}
@@ -11,9 +11,10 @@ use Rattle.rvs_inputs.specs.GroupFiles.{Inputs}
 use Rattle.rvs_inputs.specs.GroupsView.{inputs_view}
 use Rattle.rvs_generate.specs.GenerateTexts.{listing}
 use Rattle.rvs_generate.specs.Tests.{tests_of, held}
-use Rattle.rvs_run.specs.RunTests.{Bench, judges_tests, RunInputs, bench_of, runs}
+use Rattle.rvs_run.specs.RunTests.{judges_gathered, RunInputs, bench_of, runs}
+use Rattle.rvs_run.specs.RunView.{bench_view}
+use Rattle.rvs_generate.specs.declared.gathering.Gathered.{Gathered}
 use Rattle.rvs_words.specs.declared.command.RunArguments.{RunArguments}
-use Rattle.rvs_generate.specs.declared.sources.Source.{Source}
 use Rattle.rvs_generate.proofs.Runnable.{all-ready}
 use Rattle.rvs_run.proofs.run.run_over.Goals as goal
 
@@ -23,10 +24,6 @@ inputs_with inputs told = record { groups = inputs; device = told }
 -- what follows when the device file is read
 abbrev next : RunArguments → Inputs → Told → Plan Finish
 next asked inputs told = runs asked.program asked.work (inputs_with inputs told)
-
--- what follows when the listing is put
-abbrev judging : Bench → Inputs → Unit {0} → Plan Finish
-judging bench inputs done = judges_tests bench (held (tests_of bench.isa inputs.groups))
 
 pub returns-in_err-device : goal.returns-in_err-device
 returns-in_err-device g c =
@@ -57,23 +54,8 @@ returns-in_err-bench g c =
     rw (p.1, p.2) (Meets-weaker (Meets-then (next c.args.asked.now inputs)
     (c.in_ok-device.ensures out) (Meets-no_memory (next c.args.asked.now inputs device) w)))
 
-pub returns-in_err-print : goal.returns-in_err-print
-returns-in_err-print g c =
-    let inputs = inputs_view c.args.inputs.now in
-    let device = told c.in_ok-device.device in
-    let host = g.H.Host.state c.read_device_file.new.host in
-    let bench = bench_of c.args.asked.now.program c.args.asked.now.work
-    (inputs_with inputs device) in
-    let line : c.as_bytes.result.now ≡ listing inputs.isa inputs.groups =
-    c.as_bytes.ensures.value ∙ c.as_str.ensures ∙ c.in_ok-gathered.ensures.text in
-    let p = err_from_is_err_and c.from_residual-in_err-print.result
-    c.from_residual-in_err-print.ensures.1 in
-    rw (p.1, p.2) (Meets-weaker (Meets-then (next c.args.asked.now inputs)
-    (c.in_ok-device.ensures (g.O.Sink.state c.args.out.now))
-    (Meets-stop (judging bench inputs) (rw line at (c.in_err-print.ensures host)))))
-
-pub judge_tests-requires : goal.judge_tests-requires
-judge_tests-requires g c =
+pub judge_gathered-ended-requires : goal.judge_gathered-ended-requires
+judge_gathered-ended-requires g c =
     let inputs = c.args.inputs.now in
     let ready = all-ready inputs.isa inputs.groups c.requires in
     search rules
@@ -85,18 +67,22 @@ returns g c =
     let host = g.H.Host.state c.read_device_file.new.host in
     let bench = bench_of c.args.asked.now.program c.args.asked.now.work
     (inputs_with inputs device) in
-    let old = world host (g.O.Sink.state c.print.new.out) in
-    let new =
-    world (g.H.Host.state c.judge_tests.new.host) (g.O.Sink.state c.judge_tests.new.out) in
-    let line : c.as_bytes.result.now ≡ listing inputs.isa inputs.groups =
-    c.as_bytes.ensures.value ∙ c.as_str.ensures ∙ c.in_ok-gathered.ensures.text in
-    let tests : c.as_slice.result.now ≡ held (tests_of inputs.isa inputs.groups) =
-    c.as_slice.ensures ∙ c.in_ok-gathered.ensures.tests in
-    let one = subst (λ (b : Bench). MeetsWith IsAnswer (judges_tests b c.as_slice.result.now) old
-    new c.judge_tests.result) c.in_ok-bench.ensures c.judge_tests.ensures in
-    let judged = subst (λ (ts : List Source). MeetsWith IsAnswer (judges_tests bench ts) old new
-    c.judge_tests.result) tests one in
+    let old = world host (g.O.Sink.state c.args.out.now) in
+    let new = world (g.H.Host.state c.judge_gathered-ended.new.host)
+    (g.O.Sink.state c.judge_gathered-ended.new.out) in
+    let all = c.in_ok-gathered.ensures.both.0 in
+    let text : c.in_ok-bench.gathered.text ≡ listing inputs.isa inputs.groups =
+    ap (λ (g : Gathered). g.text) c.in_ok-bench.ensures.both.1
+    ∙ rw all at c.gather_tests.ensures.text in
+    let tests : c.in_ok-bench.gathered.tests ≡ held (tests_of inputs.isa inputs.groups) =
+    ap (λ (g : Gathered). g.tests) c.in_ok-bench.ensures.both.1
+    ∙ rw all at c.gather_tests.ensures.tests in
+    let made : bench_view c.in_ok-bench.bench ≡ bench =
+    rw c.in_ok-bench.ensures.both.0 at c.bench_of-bench.ensures
+    ∙ ap (λ (d : Told). bench_of c.args.asked.now.program c.args.asked.now.work
+    (inputs_with inputs d)) (ap told c.in_ok-gathered.ensures.both.1) in
+    let judged = subst (λ (plan : Plan Finish). MeetsWith IsAnswer plan old new
+    c.judge_gathered-ended.result)
+    (λ i. judges_gathered (made i) (text i) (tests i)) c.judge_gathered-ended.ensures in
     Meets-then (next c.args.asked.now inputs)
-    (Meets-weaker (c.in_ok-device.ensures (g.O.Sink.state c.args.out.now)))
-    (Meets-then (judging bench inputs) (Meets-weaker (rw line at (c.in_ok-print.ensures host)))
-    judged)
+    (Meets-weaker (c.in_ok-device.ensures (g.O.Sink.state c.args.out.now))) judged

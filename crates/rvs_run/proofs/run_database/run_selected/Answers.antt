@@ -10,7 +10,10 @@ use Rattle.rvs_isa.specs.declared.accepted_spec.AcceptedSpec.{AcceptedSpec}
 use Rattle.rvs_device.specs.DeviceFile.{Told}
 use Rattle.rvs_device.specs.DeviceView.{told}
 use Rattle.rvs_select.specs.declared.database.Entry.{Entry}
-use Rattle.rvs_run.specs.RunTests.{Bench, judges_tests}
+use Rattle.rvs_plan.specs.Plan.{Plan}
+use Rattle.rvs_plan.specs.declared.status.Finish.{Finish}
+use Rattle.rvs_run.specs.RunTests.{judges_tests}
+use Rattle.rvs_run.specs.RunView.{bench_view}
 use Rattle.rvs_run.specs.RunDatabase.{chosen, DatabaseInputs, with_device}
 use Rattle.rvs_run.specs.RunDatabase.{device_behind, database_behind, database_bench}
 use Rattle.rvs_run.specs.RunDatabase.{runs_database}
@@ -49,13 +52,14 @@ returns-in_err-device g c =
     let asked = c.args.asked.now in
     let out = g.O.Sink.state c.args.out.now in
     let isa = c.in_ok-said.said.spec in
+    let read = rw c.in_err-device.ensures.none at (c.read_device_file.ensures out) in
     let p = err_from_is_err_and c.from_residual-in_err-device.result
     c.from_residual-in_err-device.ensures.1 in
     rw (p.1, p.2) (Meets-weaker (Meets-stop (runs_database asked.program asked.work)
     (Meets-then (λ (said : AcceptedSpec). database_behind asked said.spec)
     (c.in_ok-said.ensures out)
     (Meets-then (device_behind asked.device isa) (c.in_ok-database.ensures out)
-    (Meets-stop (with_device isa c.in_ok-database.database) (c.in_err-device.ensures out))))))
+    (Meets-stop (with_device isa c.in_ok-database.database) read)))))
 
 pub returns-in_err-bench : goal.returns-in_err-bench
 returns-in_err-bench g c =
@@ -66,13 +70,14 @@ returns-in_err-bench g c =
     let inputs = inputs_with isa entries (told c.in_ok-device.device) in
     let w = world (g.H.Host.state c.read_device_file.new.host) out in
     let next = runs_database asked.program asked.work in
+    let read = rw c.in_ok-device.ensures.both.0 at (c.read_device_file.ensures out) in
     let p = err_from_is_err_and c.from_residual-in_err-bench.result
     c.from_residual-in_err-bench.ensures.1 in
     rw (p.1, p.2) (Meets-weaker (Meets-then next
     (Meets-then (λ (said : AcceptedSpec). database_behind asked said.spec)
     (c.in_ok-said.ensures out)
     (Meets-then (device_behind asked.device isa) (c.in_ok-database.ensures out)
-    (Meets-then (with_device isa entries) (c.in_ok-device.ensures out) (Meets-gives inputs w))))
+    (Meets-then (with_device isa entries) read (Meets-gives inputs w))))
     (Meets-no_memory (next inputs) w)))
 
 pub returns-in_err-sources : goal.returns-in_err-sources
@@ -84,13 +89,14 @@ returns-in_err-sources g c =
     let inputs = inputs_with isa entries (told c.in_ok-device.device) in
     let w = world (g.H.Host.state c.read_device_file.new.host) out in
     let next = runs_database asked.program asked.work in
+    let read = rw c.in_ok-device.ensures.both.0 at (c.read_device_file.ensures out) in
     let p = err_from_is_err_and c.from_residual-in_err-sources.result
     c.from_residual-in_err-sources.ensures.1 in
     rw (p.1, p.2) (Meets-weaker (Meets-then next
     (Meets-then (λ (said : AcceptedSpec). database_behind asked said.spec)
     (c.in_ok-said.ensures out)
     (Meets-then (device_behind asked.device isa) (c.in_ok-database.ensures out)
-    (Meets-then (with_device isa entries) (c.in_ok-device.ensures out) (Meets-gives inputs w))))
+    (Meets-then (with_device isa entries) read (Meets-gives inputs w))))
     (Meets-no_memory (next inputs) w)))
 
 pub returns : goal.returns
@@ -105,21 +111,25 @@ returns g c =
     let next = runs_database asked.program asked.work in
     let bench = database_bench asked.program asked.work inputs in
     let old = world host (g.O.Sink.state c.args.out.now) in
-    let new = world (g.H.Host.state c.judge_tests.new.host)
-    (g.O.Sink.state c.judge_tests.new.out) in
+    let new = world (g.H.Host.state c.judge_tests-ended.new.host)
+    (g.O.Sink.state c.judge_tests-ended.new.out) in
+    let read = rw c.in_ok-device.ensures.both.0 at (c.read_device_file.ensures out) in
+    let kept : c.in_ok-bench.database ≡ entries =
+    c.in_ok-bench.ensures.both.1 ∙ c.in_ok-device.ensures.both.1 in
+    let made : bench_view c.in_ok-sources.bench ≡ bench =
+    ap bench_view c.in_ok-sources.ensures.both.1
+    ∙ rw c.in_ok-bench.ensures.both.0 at c.bench_of-bench.ensures in
     let sources : c.as_slice-2.result.now ≡ to_read (chosen 0 entries) =
-    c.as_slice-2.ensures ∙ c.in_ok-sources.ensures
-    ∙ ap (λ (es : List Entry). to_read (chosen 0 es)) c.as_slice.ensures in
-    let one = subst (λ (b : Bench). MeetsWith IsAnswer
-    (judges_tests b c.as_slice-2.result.now) old new c.judge_tests.result)
-    c.in_ok-bench.ensures c.judge_tests.ensures in
-    let judged = subst (λ (ss : List Source). MeetsWith IsAnswer
-    (judges_tests bench ss) old new c.judge_tests.result) sources one in
+    c.as_slice-2.ensures ∙ rw c.in_ok-sources.ensures.both.0 at c.choose-sources.ensures
+    ∙ ap (λ (es : List Entry). to_read (chosen 0 es)) (c.as_slice.ensures ∙ kept) in
+    let judged = subst (λ (plan : Plan Finish). MeetsWith IsAnswer plan old new
+    c.judge_tests-ended.result) (λ i. judges_tests (made i) (sources i))
+    c.judge_tests-ended.ensures in
     Meets-then next (Meets-weaker
     (Meets-then (λ (said : AcceptedSpec). database_behind asked said.spec)
     (c.in_ok-said.ensures out)
     (Meets-then (device_behind asked.device isa) (c.in_ok-database.ensures out)
-    (Meets-then (with_device isa entries) (c.in_ok-device.ensures out) (Meets-gives inputs w)))))
+    (Meets-then (with_device isa entries) read (Meets-gives inputs w)))))
     judged
 
 -- tests of a database are as they come
@@ -127,9 +137,9 @@ all-read : (isa : Isa) (given : List Given) → All (IsReady isa) (to_read given
 all-read isa [] = All-nil (IsReady isa)
 all-read isa (g ∷ given) = All-cons (IsReady isa) (Read g) (to_read given) tt (all-read isa given)
 
-pub judge_tests-requires : goal.judge_tests-requires
-judge_tests-requires g c =
-    let isa = c.in_ok-bench.bench.isa in
+pub judge_tests-ended-requires : goal.judge_tests-ended-requires
+judge_tests-ended-requires g c =
+    let isa = c.in_ok-sources.bench.isa in
     subst (λ (ss : List Source). All (IsReady isa) ss)
-    (sym (c.as_slice-2.ensures ∙ c.in_ok-sources.ensures))
+    (sym (c.as_slice-2.ensures ∙ rw c.in_ok-sources.ensures.both.0 at c.choose-sources.ensures))
     (all-read isa (chosen 0 c.as_slice.result.now))

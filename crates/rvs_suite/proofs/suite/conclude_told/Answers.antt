@@ -1,7 +1,7 @@
 use Rattle.std.proofs.Common.{Ok, Err, subst}
 use Rattle.rvs_base.specs.Sink.{SinkState}
 use Rattle.rvs_plan.specs.Account.{Concludes}
-use Rattle.rvs_suite.proofs.ProgressEnds.{concludes-untold}
+use Rattle.rvs_promises.proofs.ProgressEnds.{concludes-untold}
 use Rattle.rvs_suite.proofs.suite.conclude_told.Goals as goal
 
 pub returns-in-Ok : goal.returns-in-Ok

@@ -5,10 +5,10 @@ use Rattle.rvs_plan.specs.World.{world}
 use Rattle.rvs_words.specs.Words.{texts}
 use Rattle.rvs_words.specs.Commands.{command_of}
 use Rattle.rvs_suite.specs.Plans.{Performs}
-use Rattle.rvs_suite.specs.Progressing.{asks_progress, lines_of}
+use Rattle.rvs_promises.specs.Progressing.{asks_progress, lines_of}
 use Rattle.rvs_coverage.specs.Telling.{HasToldOf, as_planned}
 use Rattle.rvs_words.specs.declared.command.Command.{Command}
-use Rattle.rvs_suite.proofs.Running.{Performs-no_memory}
+use Rattle.rvs_suite.proofs.Performing.{Performs-no_memory}
 use Rattle.rvs_suite.proofs.suite.perform.Goals as goal
 
 pub returns-in_err-command-clause-done : goal.returns-in_err-command-clause-done
@@ -26,13 +26,13 @@ pub returns-clause-done : goal.returns-clause-done
 returns-clause-done g c =
     let old = world (g.H.Host.state c.args.host.now) (g.O.Sink.state c.args.out.now) in
     let new =
-    world (g.H.Host.state c.run_command.new.host) (g.O.Sink.state c.run_command.new.out) in
-    subst (λ (command : Command). Performs command old new (as_planned c.run_command.result))
-    c.in_ok-command.ensures c.run_command.ensures.done
+    world (g.H.Host.state c.run_command-ended.new.host) (g.O.Sink.state c.run_command-ended.new.out) in
+    subst (λ (command : Command). Performs command old new (as_planned c.run_command-ended.result))
+    c.in_ok-command.ensures c.run_command-ended.ensures.done
 
 pub returns-clause-told : goal.returns-clause-told
 returns-clause-told g c =
     subst (λ (command : Command). HasToldOf (asks_progress command) (lines_of command)
     (g.H.Host.state c.args.host.now) (g.E.Sink.state c.args.err.now)
-    (g.E.Sink.state c.run_command.new.err) c.run_command.result)
-    c.in_ok-command.ensures c.run_command.ensures.told
+    (g.E.Sink.state c.run_command-ended.new.err) c.run_command-ended.result)
+    c.in_ok-command.ensures c.run_command-ended.ensures.told

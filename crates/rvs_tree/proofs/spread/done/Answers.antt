@@ -6,10 +6,12 @@ use Rattle.rvs_tree.specs.TreeView.{view}
 use Rattle.rvs_tree.specs.PairsView.{pairs_view}
 use Rattle.rvs_tree.specs.GatheredView.{taken_view, gathered_view}
 use Rattle.rvs_tree.specs.PartsView.{next_view, brings}
-use Rattle.rvs_tree.proofs.Drafts.{view-whole}
+use Rattle.std.proofs.Common.{arith}
+use Rattle.rvs_tree.proofs.Drafts.{view-whole, any-ok}
+use Rattle.rvs_tree.proofs.Views.{ok_more}
+use Rattle.rvs_tree.specs.declared.gathering.Gathered.{Gathered}
 use Rattle.rvs_tree.proofs.Sifting.{later-same}
 use Rattle.rvs_tree.proofs.Bringing.{gathered-sift, gathered-keys}
-use Rattle.std.proofs.Common.{arith}
 use Rattle.rvs_tree.proofs.Single.{view-pair, after-own, size-pair, size-whole}
 use Rattle.rvs_tree.proofs.spread.done.Goals as goal
 
@@ -23,34 +25,34 @@ after out T ps g rest e =
     (later-same (gathered (out, T) ps).1 (keys_of ps ++ T) rest (gathered-keys out T ps))
     ∙ append_assoc out (sift T ps) (later (keys_of ps ++ T) rest)
 
-pub returns-in_ok-gathered-in-Whole-clause-brought :
-    goal.returns-in_ok-gathered-in-Whole-clause-brought
-returns-in_ok-gathered-in-Whole-clause-brought c =
+pub returns-in-Whole-clause-brought : goal.returns-in-Whole-clause-brought
+returns-in-Whole-clause-brought c =
     let g = c.args.gathered in
-    let rest = next_view c.args.work.items in
+    let rest = next_view c.args.work.now.items in
+    ok_more c.with_merged.result c.with_merged.ensures (λ (x : Gathered) h.
     after (pairs_view g.pairs) (taken_view g.taken) (merged_pairs (view c.in-Whole.tree.value))
-    (gathered_view c.in_ok-gathered-in-Whole.gathered) rest
-    (c.in_ok-gathered-in-Whole.ensures
-    ∙ ap (λ t. gathered (gathered_view g) (merged_pairs (view t))) c.deref.ensures)
-    ∙ sym (ap (λ w. brings g (w ∷ rest)) (view-whole c.args.part.now c.in-Whole.tree c.in-Whole.is))
+    (gathered_view x) rest
+    (h ∙ ap (λ t. gathered (gathered_view g) (merged_pairs (view t))) c.deref.ensures)
+    ∙ sym (ap (λ w. brings g (w ∷ rest))
+    (view-whole c.args.part.now c.in-Whole.tree c.in-Whole.is)))
 
-pub returns-in_ok-gathered-in-Pair-clause-brought :
-    goal.returns-in_ok-gathered-in-Pair-clause-brought
-returns-in_ok-gathered-in-Pair-clause-brought c =
+pub returns-in-Pair-clause-brought : goal.returns-in-Pair-clause-brought
+returns-in-Pair-clause-brought c =
     let g = c.args.gathered in
     let T = taken_view g.taken in
-    let rest = next_view c.args.work.items in
+    let rest = next_view c.args.work.now.items in
+    ok_more c.with_own.result c.with_own.ensures (λ (x : Gathered) h.
     after-own (pairs_view g.pairs) T (c.as_str.result.now, view c.in-Pair.tree.value)
-    (gathered_view c.in_ok-gathered-in-Pair.gathered) rest c.in_ok-gathered-in-Pair.ensures
+    (gathered_view x) rest h
     ∙ ap (λ k. pairs_view g.pairs ++ (k, view c.in-Pair.tree.value) ∷ later T rest)
     c.as_str.ensures.value
     ∙ sym (ap (λ w. brings g (w ∷ rest))
-    (view-pair c.args.part.now c.in-Pair.key c.in-Pair.tree c.in-Pair.is))
+    (view-pair c.args.part.now c.in-Pair.key c.in-Pair.tree c.in-Pair.is)))
 
-pub returns-in_ok-gathered-in-Pair-clause-small : goal.returns-in_ok-gathered-in-Pair-clause-small
-returns-in_ok-gathered-in-Pair-clause-small c =
-    omega (arith, size-pair c.args.part.now c.in-Pair.key c.in-Pair.tree c.in-Pair.is)
+pub returns-in-Whole-clause-small : goal.returns-in-Whole-clause-small
+returns-in-Whole-clause-small c = any-ok c.with_merged.result
+    (omega (arith, size-whole c.args.part.now c.in-Whole.tree c.in-Whole.is))
 
-pub returns-in_ok-gathered-in-Whole-clause-small : goal.returns-in_ok-gathered-in-Whole-clause-small
-returns-in_ok-gathered-in-Whole-clause-small c =
-    omega (arith, size-whole c.args.part.now c.in-Whole.tree c.in-Whole.is)
+pub returns-in-Pair-clause-small : goal.returns-in-Pair-clause-small
+returns-in-Pair-clause-small c = any-ok c.with_own.result
+    (omega (arith, size-pair c.args.part.now c.in-Pair.key c.in-Pair.tree c.in-Pair.is))

@@ -1,12 +1,13 @@
 use Rattle.std.proofs.Common.{◌≡◌, ◌∷◌, ◌-◌, ◌∙◌, sym, ap, subst, length, take, Some, false}
 use Rattle.std.proofs.lemmas.Result.{err_from_is_err_and}
+use Rattle.rvs_fault.specs.Answers.{seen}
 use Rattle.rvs_tree.specs.ValueView.{value_view}
 use Rattle.rvs_yaml_text.specs.Tokens.{tokens_of}
 use Rattle.rvs_yaml_text.specs.Word.{opens_block}
 use Rattle.rvs_yaml_text.specs.WordView.{bracket_view, sort_view}
 use Rattle.rvs_yaml.specs.Filling.{filled}
 use Rattle.rvs_tree.specs.Standin.{standin}
-use Rattle.rvs_yaml.specs.Checks.{◌>>=◌, mapped}
+use Rattle.rvs_yaml.specs.Checks.{◌>>=◌}
 use Rattle.rvs_yaml.specs.Flow.{flow_value}
 use Rattle.rvs_yaml.specs.Gives.{Fails}
 use Rattle.rvs_yaml.specs.Reader.{kept, Denies, DeniesFront}
@@ -41,7 +42,7 @@ returns-in_err-thin c =
     rw (p.1, p.2)
     (subst (λ x. Fails c.in_err-thin.field-0.0 (filled (Some (b, ts)) x >>= kept)) (sym split)
     (denied-flow (open_at all top) (anchored (take top.block.before all) outer) b ts _
-    (subst (λ xs. Fails c.in_err-thin.field-0.0 (mapped standin (flow_value xs top.head.line b ts)))
+    (subst (λ xs. Fails c.in_err-thin.field-0.0 (seen standin (flow_value xs top.head.line b ts)))
     (sym known) c.in_err-thin.ensures)))
 
 pub returns : goal.returns
@@ -71,7 +72,7 @@ returns c =
     subst (λ x. Denies c.check_thin.result (filled (Some (b, ts)) x)) (sym split)
     (denied-front c.check_thin.result (open_at all top) rest b ts (value_view c.in_ok-thin.thin)
     leaf
-    (ap (λ xs. mapped standin (flow_value xs top.head.line b ts)) known ∙ c.in_ok-thin.ensures)
+    (ap (λ xs. seen standin (flow_value xs top.head.line b ts)) known ∙ c.in_ok-thin.ensures)
     (λ v e t. subst (DeniesFront c.check_thin.result) (front v)
     (c.check_thin.ensures top.head.line b
     v (sym (ap (λ xs. flow_value xs top.head.line b ts) known) ∙ e) t)))

@@ -17,5 +17,6 @@ returns c =
     ∙ c.if-starts_with.false in
     gives_same _ _ _ _ (next-token a.known.now.poor (known_view a.known.now) a.line
     (reading_view f.reading) f.closed f.spaced f.rest.now
-    (first_view (c.in_ok-token.token, c.in_ok-token.behind)) no_space c.in_ok-token.ensures)
-    c.behind_token.ensures
+    (first_view (c.in_ok-token.token, c.in_ok-token.behind)) no_space
+    (rw c.in_ok-token.ensures.both.0 at c.next_token-token.ensures))
+    (rw c.in_ok-token.ensures.both.1 at c.behind_token.ensures)

@@ -1,6 +1,7 @@
-use Rattle.std.proofs.Common.{◌≡◌, ◌<◌, ◌∙◌, ◌∷◌, suc, max, min, sym, ap, map, drop, length}
+use Rattle.std.proofs.Common.{◌≡◌, ◌<◌, ◌∙◌, ◌∷◌, [], suc, max, min, sym, ap, map, drop, length}
 use Rattle.std.proofs.Common.{add-one, drop-cons, arith, string_bytes}
 use Rattle.std.specs.List.{zip}
+use Rattle.std.proofs.lemmas.List.{drop_all}
 use Rattle.std.specs.Prelude.{if◌then◌else◌}
 use Rattle.rvs_tree.specs.Data.{depth}
 use Rattle.rvs_tree.specs.Value.{has_key, explicit_keys}
@@ -39,3 +40,16 @@ loop-i-preserved c =
     (min (visible_depth E (zip (map string_bytes (k ∷ drop (suc i) ks)) (map rc_view us))) 33))
     values)
     ∙ c.loop-i.invariant)
+
+pub returns : goal.returns
+returns c =
+    let E = explicit_keys (entries_view c.args.self.now.entries.items) in
+    let i = c.loop-i.i in
+    let ks = c.entries.result.0.now in
+    let vs = map rc_view (drop i c.entries.result.1.now) in
+    let n = c.loop-i.deepest in
+    let none : drop i ks ≡ [] = drop_all i ks c.loop-i-test.false in
+    let same : n ≡ max n (min 0 33) = omega arith in
+    same
+    ∙ sym (ap (λ us. max n (min (visible_depth E (zip (map string_bytes us) vs)) 33)) none)
+    ∙ c.loop-i.invariant ∙ sym (ap (λ ps. min (visible_depth E ps) 33) c.entries.ensures)

@@ -1,8 +1,9 @@
 use Rattle.std.proofs.Common.{◌∙◌, sym, ap, Ok}
+use Rattle.rvs_fault.specs.Answers.{seen}
 use Rattle.rvs_tree.specs.Value.{Value}
 use Rattle.rvs_tree.specs.Standin.{formed_value}
 use Rattle.rvs_yaml.specs.Anchors.{known_alias}
-use Rattle.rvs_yaml.specs.Checks.{Checked, mapped}
+use Rattle.rvs_yaml.specs.Checks.{Checked}
 use Rattle.rvs_yaml.specs.StackView.{all_known}
 use Rattle.rvs_tree.specs.ValueView.{value_view}
 use Rattle.rvs_yaml.proofs.Deciding.{gave}
@@ -16,25 +17,25 @@ pub returns-in_ok-formed-in-Some-clause-given : goal.returns-in_ok-formed-in-Som
 returns-in_ok-formed-in-Some-clause-given c =
     let poor = c.args.self.now.poor in
     formed-alias poor c.args.name.now (all_known c.args.self.now)
-    ∙ ap (λ o. mapped (formed_value poor) (known_alias o)) (sym c.in-Some.ensures.value)
+    ∙ ap (λ o. seen (formed_value poor) (known_alias o)) (sym c.in-Some.ensures.value)
     ∙ ap good (sym c.in_ok-formed-in-Some.ensures)
 
 pub returns-in-None-clause-given : goal.returns-in-None-clause-given
 returns-in-None-clause-given c =
     let poor = c.args.self.now.poor in
     formed-alias poor c.args.name.now (all_known c.args.self.now)
-    ∙ ap (λ o. mapped (formed_value poor) (known_alias o)) (sym c.in-None.ensures.value)
+    ∙ ap (λ o. seen (formed_value poor) (known_alias o)) (sym c.in-None.ensures.value)
 
 pub returns-in_err-formed-in-Some-clause-refused : goal.returns-in_err-formed-in-Some-clause-refused
 returns-in_err-formed-in-Some-clause-refused c =
     let poor = c.args.self.now.poor in
     gave _ _ (formed_value poor (value_view c.in-Some.value.now))
     (formed-alias poor c.args.name.now (all_known c.args.self.now)
-    ∙ ap (λ o. mapped (formed_value poor) (known_alias o)) (sym c.in-Some.ensures.value))
+    ∙ ap (λ o. seen (formed_value poor) (known_alias o)) (sym c.in-Some.ensures.value))
 
 pub returns-in_ok-formed-in-Some-clause-refused : goal.returns-in_ok-formed-in-Some-clause-refused
 returns-in_ok-formed-in-Some-clause-refused c =
     let poor = c.args.self.now.poor in
     gave _ _ (formed_value poor (value_view c.in-Some.value.now))
     (formed-alias poor c.args.name.now (all_known c.args.self.now)
-    ∙ ap (λ o. mapped (formed_value poor) (known_alias o)) (sym c.in-Some.ensures.value))
+    ∙ ap (λ o. seen (formed_value poor) (known_alias o)) (sym c.in-Some.ensures.value))

@@ -1,0 +1,73 @@
+use Rattle.std.proofs.Common.{◌≡◌, ◌∷◌, ◌++◌, [], ◌∙◌, sym, ap, subst, length, take, Ok, Err}
+use Rattle.std.proofs.Common.{IfErr}
+use Rattle.std.specs.Prelude.{IfOk}
+use Rattle.std.proofs.lemmas.Result.{err_from_is_err_and}
+use Rattle.rvs_fault.specs.Answers.{seen}
+use Rattle.rvs_yaml.specs.Gives.{Gives}
+use Rattle.rvs_yaml.specs.StepParts.{opened}
+use Rattle.rvs_yaml.specs.Rising.{Rises, befores}
+use Rattle.rvs_yaml.specs.StackView.{own_view, block_at, anchored}
+use Rattle.rvs_yaml.specs.declared.open.Open.{Open}
+use Rattle.rvs_yaml_text.specs.WordView.{head_view}
+use Rattle.rvs_yaml.proofs.Putting.{seen-fails}
+use Rattle.rvs_yaml.proofs.Segments.{anchored-push, befores-push}
+use Rattle.rvs_yaml.proofs.stack.put_own.Goals as goal
+
+pub returns-in_err-own : goal.returns-in_err-own
+returns-in_err-own c = λ made gave.
+    let p = err_from_is_err_and c.from_residual.result c.from_residual.ensures.1 in
+    let is : c.args.own ≡ Err c.in_err-own.field-0.0 =
+    subst (λ r. IfErr r (λ e. c.args.own ≡ Err e)) c.in_err-own.ensures.none
+    c.beside-own.ensures.none in
+    rw (p.1, p.2) (seen-fails c.in_err-own.field-0.0 _ made
+    (subst (λ r. Gives (own_view c.args.head.line) r made) is gave))
+
+pub invariant_of-result : goal.invariant_of-result
+invariant_of-result c =
+    let first = c.in_ok-own.ensures.both in
+    let parts : (c.args.own ≡ Ok c.in_ok-own.own) × (c.in_ok-own.block ≡ c.args.block) =
+    subst (λ r. IfOk r (λ q. (c.args.own ≡ Ok q.0) × (q.1 ≡ c.args.block))) first.0
+    c.beside-own.ensures.both in
+    let second = c.in_ok-blocks.ensures.both in
+    let same : c.in_ok-blocks.anchors ≡ c.args.anchors = second.1 ∙ ap (λ q. q.1) first.1 in
+    let bs = c.args.blocks.items in
+    let top : Open = record { block = c.args.block; head = c.args.head; own = c.in_ok-own.own } in
+    let items : c.in_ok-blocks.blocks.items ≡ bs ++ top ∷ [] =
+    (rw second.0 at c.pushed.ensures)
+    ∙ ap (λ b. c.in_ok-own.blocks.items ++ (let o : Open = record {
+      block = b;
+      head = c.args.head;
+      own = c.in_ok-own.own;
+    } in o) ∷ []) parts.1
+    ∙ ap (λ q. q.0.items ++ top ∷ []) first.1 in
+    record {
+      rising = subst (Rises (length c.in_ok-blocks.anchors.anchors.items))
+          (sym (ap befores items ∙ befores-push bs top))
+          (subst (λ a. Rises (length a.anchors.items) (c.args.block.before ∷ befores bs)) (sym same)
+          c.requires);
+    }
+
+pub returns : goal.returns
+returns c = λ made gave.
+    let first = c.in_ok-own.ensures.both in
+    let parts : (c.args.own ≡ Ok c.in_ok-own.own) × (c.in_ok-own.block ≡ c.args.block) =
+    subst (λ r. IfOk r (λ q. (c.args.own ≡ Ok q.0) × (q.1 ≡ c.args.block))) first.0
+    c.beside-own.ensures.both in
+    let second = c.in_ok-blocks.ensures.both in
+    let same : c.in_ok-blocks.anchors ≡ c.args.anchors = second.1 ∙ ap (λ q. q.1) first.1 in
+    let all = c.args.anchors.anchors.items in
+    let bs = c.args.blocks.items in
+    let top : Open = record { block = c.args.block; head = c.args.head; own = c.in_ok-own.own } in
+    let items : c.in_ok-blocks.blocks.items ≡ bs ++ top ∷ [] =
+    (rw second.0 at c.pushed.ensures)
+    ∙ ap (λ b. c.in_ok-own.blocks.items ++ (let o : Open = record {
+      block = b;
+      head = c.args.head;
+      own = c.in_ok-own.own;
+    } in o) ∷ []) parts.1
+    ∙ ap (λ q. q.0.items ++ top ∷ []) first.1 in
+    ap (seen (λ v. opened (block_at all c.args.block) (head_view c.args.head) v
+    ∷ anchored (take c.args.block.before all) bs))
+    (subst (λ r. Gives (own_view c.args.head.line) r made) parts.0 gave)
+    ∙ ap Ok (sym (ap (λ a. anchored a.anchors.items c.in_ok-blocks.blocks.items) same
+    ∙ ap (anchored all) items ∙ anchored-push all bs top))
