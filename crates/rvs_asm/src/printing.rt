@@ -3,8 +3,7 @@ ghost use Rattle.std.specs.Prelude.{◌≡◌, IfOk};
 ghost use Rattle.rvs_asm.specs.KindNumbers.{detail, refusal_text};
 
 use crate::{AsmKind, AsmRefusal};
-use rvs_base::{NoMemory, Text};
-use rvs_fault::Refusal;
+use rvs_base::{NoMemory, Refusal, Text};
 use std::alloc::Global;
 
 impl Refusal for AsmRefusal {

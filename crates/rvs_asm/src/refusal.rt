@@ -4,8 +4,7 @@ ghost use Rattle.rvs_asm.specs.Faults.{kind_of};
 ghost use Rattle.rvs_asm.specs.KindNumbers.{kind_number};
 
 use rvs_asm_text::LineFault;
-use rvs_base::Text;
-use rvs_fault::Fault;
+use rvs_base::{Fault, Text};
 
 /// Why no image stands to a text.
 #[derive(Drop)]
@@ -86,7 +85,7 @@ pub fn kind_of_fault(fault: LineFault) -> AsmKind
 }
 
 impl From<AsmRefusal> for Fault<AsmRefusal> {
-    ghost use Rattle.rvs_fault.specs.declared.faults.Fault.TheVariants.{Refused};
+    ghost use Rattle.rvs_base.specs.declared.fault.Fault.TheVariants.{Refused};
 
     ghost from_gives = { λ refusal fault. fault ≡ Refused refusal };
 

@@ -11,7 +11,7 @@ use Rattle.std.proofs.lemmas.List.Elements.{All-nil, All-cons, All-push, All-app
 use Rattle.std.proofs.lemmas.List.Elements.{All-tail}
 use Rattle.std.proofs.lemmas.List.Folds.{list_all-append, list_any-append}
 use Rattle.std.proofs.lemmas.Slice.Eq.{bytes_eq-Decides}
-use Rattle.rvs_fault.specs.declared.faults.Fault.{Fault}
+use Rattle.rvs_base.specs.declared.fault.Fault.{Fault}
 use Rattle.rvs_insn.specs.Isa.{Isa}
 use Rattle.rvs_insn.specs.Names.{op_of_name, is_admitted_op}
 use Rattle.rvs_insn.specs.Table.{row, all_ops}

@@ -12,10 +12,9 @@ ghost use Rattle.rvs_cgf.specs.PlaceView.{place_view};
 use crate::place::{At, at_key};
 use crate::refusal::CgfRefusal;
 use crate::walk::{Taken, add, is_shaped, refusal, skip};
-use rvs_abstract::{AbstractRefusal, Call, Families, Family4, len, read_call, value};
-use rvs_base::{NoMemory, Text};
+use rvs_abstract::{Call, Families, Family4, len, read_call, value};
+use rvs_base::{Fault, NoMemory, Text};
 use rvs_expr::{Expr, NumName, parse_num};
-use rvs_fault::Fault;
 use rvs_points::{CgfKind, Kind, Meaning, Point};
 use rvs_tree::Tree;
 use std::alloc::Global;
@@ -31,19 +30,12 @@ fn written(name: NumName) -> &'static str
     }
 }
 
-/// The key of the point at which a variable has a value.
-fn key_text(alloc: Global, var: NumName, value: i64) -> Result<Text, NoMemory>
-    ensures { IfOk result (λ t. t ≡ key_of var value) }
-{
-    let name = written(var);
-    Ok(Text::from(format!(in alloc; "{name} == {value}")?))
-}
-
 /// The point at which a variable has a value.
 fn value_point(alloc: Global, var: NumName, value: i64) -> Result<Point, NoMemory>
     ensures { IfOk result (λ p. point_view p ≡ spec.value_point var value) }
 {
-    let key = key_text(alloc, var, value)?;
+    let name = written(var);
+    let key = Text::from(format!(in alloc; "{name} == {value}")?);
     let expr = Expr::equals(alloc, var, value)?;
     Ok(Point {
         kind: Kind::ValComb,
@@ -228,25 +220,7 @@ fn family_pairs(
     Ok(taken)
 }
 
-/// The points of a call, or its skipped line.
-fn called(
-    alloc: Global,
-    place: At<'_>,
-    call: Result<Call, AbstractRefusal>,
-    taken: Taken,
-) -> Result<Taken, Fault<CgfRefusal>>
-    ensures { AnswersWith taken_view result
-        (spec.called (place_view place.entry) (read_call_view call) (taken_view taken)) }
-{
-    match call {
-        Ok(Call::Points(f)) => family_values(alloc, place, &f, taken),
-        Ok(Call::Pairs(a, b)) => family_pairs(alloc, place, &a, &b, taken),
-        Ok(Call::Skipped) => skip(alloc, place, taken),
-        Err(why) => Err(refusal(alloc, place, CgfKind::BadAbstract(why))),
-    }
-}
-
-/// One entry of `abstract_comb`.
+/// One entry of `abstract_comb`: the points of a call, or its skipped line.
 fn abstract_entry(
     alloc: Global,
     families: Families,
@@ -261,7 +235,12 @@ fn abstract_entry(
     if !is_shaped(place.key, entry) {
         return Err(refusal(alloc, place, CgfKind::BadShape));
     }
-    called(alloc, place, read_call(families, place.key), taken)
+    match read_call(families, place.key) {
+        Ok(Call::Points(f)) => family_values(alloc, place, &f, taken),
+        Ok(Call::Pairs(a, b)) => family_pairs(alloc, place, &a, &b, taken),
+        Ok(Call::Skipped) => skip(alloc, place, taken),
+        Err(why) => Err(refusal(alloc, place, CgfKind::BadAbstract(why))),
+    }
 }
 
 /// The entries of `abstract_comb`, which is a map.

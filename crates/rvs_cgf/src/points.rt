@@ -96,13 +96,6 @@ impl Points {
         }
     }
 
-    /// The points as a slice.
-    pub fn as_slice(&self) -> &[Point]
-        ensures { result.now ≡ self.now.list }
-    {
-        self.list.as_slice()
-    }
-
     /// The points alone.
     pub fn into_items(self) -> Items<Point>
         ensures { result ≡ self.list }

@@ -7,11 +7,9 @@ ghost use Rattle.rvs_cgf.specs.Print as spec;
 
 use crate::refusal::CgfRefusal;
 use crate::walk::same_kind;
-use rvs_abstract::AbstractRefusal;
-use rvs_base::{NoMemory, Text};
+use rvs_base::{NoMemory, Refusal, Text};
 use rvs_cross::CrossRefusal;
 use rvs_expr::ExprRefusal;
-use rvs_fault::Refusal;
 use rvs_points::{CgfKind, Groups, Kind, Label, Point, Skipped};
 use std::alloc::Global;
 
@@ -45,14 +43,6 @@ fn push_doubled(text: &mut Text, key: &str) -> Result<(), NoMemory>
     text.push_str(rest)
 }
 
-fn push_kind_line(text: &mut Text, kind: Kind) -> Result<(), NoMemory>
-    ensures { OnOk result (text.new ≡ text.old ++ spec.kind_line kind) }
-{
-    text.push_str("  ")?;
-    text.push_str(kind.name())?;
-    text.push_str(":\n")
-}
-
 fn goes_on(before: Option<Kind>, kind: Kind) -> bool
     ensures { result ≡ spec.goes_on before kind }
 {
@@ -68,7 +58,9 @@ fn push_head_line(text: &mut Text, before: Option<Kind>, kind: Kind) -> Result<(
     if goes_on(before, kind) {
         return Ok(());
     }
-    push_kind_line(text, kind)
+    text.push_str("  ")?;
+    text.push_str(kind.name())?;
+    text.push_str(":\n")
 }
 
 fn push_point_line(text: &mut Text, key: &str) -> Result<(), NoMemory>
@@ -183,13 +175,6 @@ fn expr_text(alloc: Global, why: ExprRefusal) -> Result<Text, NoMemory>
     Ok(Text::from(format!(in alloc; " expr {number} column {column}")?))
 }
 
-fn abstract_text(alloc: Global, why: AbstractRefusal) -> Result<Text, NoMemory>
-    ensures { IfOk result (λ text. text ≡ spec.inner_text (CgfKind.BadAbstract why)) }
-{
-    let number = why.number();
-    Ok(Text::from(format!(in alloc; " abstract {number}")?))
-}
-
 fn name_text(alloc: Global, name: &str) -> Result<Text, NoMemory>
     ensures { IfOk result (λ text. text ≡ codes " " ++ name.now) }
 {
@@ -224,7 +209,10 @@ fn inner_text(alloc: Global, kind: &CgfKind) -> Result<Text, NoMemory>
 {
     match kind {
         CgfKind::BadExpr(why) => expr_text(alloc, *why),
-        CgfKind::BadAbstract(why) => abstract_text(alloc, *why),
+        CgfKind::BadAbstract(why) => {
+            let number = why.number();
+            Ok(Text::from(format!(in alloc; " abstract {number}")?))
+        }
         CgfKind::BadCross(why) => cross_text(alloc, why),
         _ => Ok(Text::new(alloc)),
     }

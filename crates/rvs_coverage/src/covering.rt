@@ -5,8 +5,8 @@ ghost use Rattle.rvs_plan.specs.World.{world};
 ghost use Rattle.rvs_plan.specs.Meets.{Meets};
 ghost use Rattle.rvs_index.specs.Counting.{aims_in};
 ghost use Rattle.rvs_inputs.specs.GroupsView.{groups_view};
-ghost use Rattle.rvs_coverage.specs.Coverage.{uncounted, report_on, measure, reported};
-ghost use Rattle.rvs_coverage.specs.Coverage.{file_name, counts_more, coverage, with_tally};
+ghost use Rattle.rvs_coverage.specs.Coverage.{uncounted, report_on, measure};
+ghost use Rattle.rvs_coverage.specs.Coverage.{file_name, counts_more, coverage};
 ghost use Rattle.rvs_coverage.specs.Telling.{HasToldOf, as_planned, lines_of_logs};
 ghost use Rattle.rvs_coverage.specs.LogReport.{takes_logs, reads_logs};
 
@@ -14,7 +14,7 @@ use crate::log_lines::under_lines;
 use crate::summing::{plus_each, total_of, with_number};
 use crate::taking_logs::{LogTaker, take_log, take_onto};
 use crate::unfinished::{Unfinished, as_planned, unlost};
-use rvs_base::{Host, Items, MemorySink, NoMemory, Sink, Text, Window, release};
+use rvs_base::{Host, Items, MemorySink, NoMemory, Sink, Text, Window, beside, release};
 use rvs_cgf::Groups;
 use rvs_count::{Counter, Tally, new_counter, report_text, zeros};
 use rvs_inputs::{print_text, read_inputs, release_inputs};
@@ -52,26 +52,11 @@ pub fn cover_log<H: Host, O: Sink, E: Sink>(
     ensures told { HasToldOf asked.now.progress (lines_of_logs file_name asked.now.logs)
         (H.state host.old) (E.state err.old) (E.state err.new) result }
 {
-    let report = read_report(alloc, host, err, asked)?;
-    unlost(print_text(&report, out))
-}
-
-/// Reads all files, and makes the report.
-fn read_report<H: Host, E: Sink>(
-    alloc: Global,
-    host: &mut H,
-    err: &mut E,
-    asked: &CoverageArguments,
-) -> Result<Text, Unfinished>
-    ensures met { (out : SinkState) → Meets (reported asked.now)
-        (world (H.state host.old) out) (world (H.state host.new) out) (as_planned result) }
-    ensures told { HasToldOf asked.now.progress (lines_of_logs file_name asked.now.logs)
-        (H.state host.old) (E.state err.old) (E.state err.new) result }
-{
     let inputs = read_inputs(alloc, host, &asked.isa, asked.families, &asked.groups)?;
-    let report = report_logs(alloc, host, err, &inputs.groups, asked);
+    let outcome = report_logs(alloc, host, err, &inputs.groups, asked);
     release_inputs(inputs);
-    report
+    let report = outcome?;
+    unlost(print_text(&report, out))
 }
 
 /// Counts in all logs, and makes the report.
@@ -161,25 +146,12 @@ fn count_all<H: Host, E: Sink>(
         (H.state host.old) (E.state err.old) (E.state err.new) result }
 {
     let none = nothing(alloc, groups, logs.len())?;
-    let kept = Items::from(windows.to_vec(alloc)?);
-    let mut counter = new_counter(alloc, groups, kept)?;
+    let (kept, none) = beside(windows.to_vec(alloc), none)?;
+    let counter = new_counter(alloc, groups, Items::from(kept));
+    let (mut counter, none) = beside(counter, none)?;
     let covered = take_onto(alloc, host, err, progress, &mut counter, none, logs);
     release(counter);
     covered
-}
-
-/// With what was counted in a log more.
-fn with_tally(counted: Covered, tally: &Tally<'_>) -> Result<Covered, NoMemory>
-    ensures counted { IfOk result (λ c. c ≡ with_tally counted tally.now) }
-    ensures long { IfOk result (λ c. length c.counts ≡ length counted.counts) }
-{
-    let Covered {
-        counts: before,
-        ran: earlier,
-    } = counted;
-    let counts = plus_each(before, tally.counts());
-    let ran = with_number(earlier, tally.instructions())?;
-    Ok(Covered { counts, ran })
 }
 
 impl<'g> LogTaker for Counter<'g> {
@@ -207,6 +179,9 @@ impl<'g> LogTaker for Counter<'g> {
     ) -> Result<Covered, Unfinished> {
         self.restart(());
         take_log::<H, E, Tally<'g>, Covered>(alloc, host, err, progress, self, log.as_str())?;
-        Ok(with_tally(known, self.told())?)
+        let tally = self.told();
+        let counts = plus_each(known.counts, tally.counts());
+        let (ran, counts) = beside(with_number(known.ran, tally.instructions()), counts)?;
+        Ok(Covered { counts, ran })
     }
 }

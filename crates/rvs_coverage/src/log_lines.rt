@@ -1,6 +1,6 @@
 // The lines of a report that say how many instructions each of its logs has.
-ghost use Rattle.std.specs.Prelude.{◌≡◌, ◌++◌, IfOk, OnOk};
-ghost use Rattle.rvs_coverage.specs.LogLines.{log_line, log_lines, lines_of_many};
+ghost use Rattle.std.specs.Prelude.{◌≡◌, ◌++◌, IfOk};
+ghost use Rattle.rvs_coverage.specs.LogLines.{log_lines, lines_of_many};
 
 use rvs_base::{NoMemory, Text};
 use std::alloc::Global;
@@ -35,16 +35,9 @@ fn log_lines(alloc: Global, names: &[Text], ran: &[u64]) -> Result<Text, NoMemor
         let Some((count, more)) = left.split_first() else {
             return Ok(text);
         };
-        push_log_line(alloc, &mut text, name, *count)?;
+        let line = format!(in alloc; "log {count} {name}\n", name = name.as_str())?;
+        text.push_str(line.as_str())?;
         left = more;
     }
     Ok(text)
-}
-
-fn push_log_line(alloc: Global, text: &mut Text, name: &Text, ran: u64) -> Result<(), NoMemory>
-    ensures { OnOk result (text.new ≡ text.old ++ log_line name.now ran) }
-{
-    let name = name.as_str();
-    let line = format!(in alloc; "log {ran} {name}\n")?;
-    text.push_str(line.as_str())
 }

@@ -1,7 +1,6 @@
 // Texts of cross points, each with its places or why it is refused.
-use rvs_base::release;
+use rvs_base::{Fault, release};
 use rvs_cross::{Cross, CrossRead, CrossRefusal, Place, in_order, parse_cross};
-use rvs_fault::Fault;
 use std::alloc::Global;
 use std::test::Fail;
 

@@ -1,7 +1,6 @@
 // Executables of images, which are edited and read again.
-use rvs_base::{Bytes, number_below, release};
+use rvs_base::{Bytes, Fault, Refusal, number_below, release};
 use rvs_elf::{ElfRefusal, read_elf, write_elf};
-use rvs_fault::{Fault, Refusal};
 use rvs_insn::USUAL_MEMORY;
 use rvs_machine::{Image, read_image};
 use std::alloc::Global;

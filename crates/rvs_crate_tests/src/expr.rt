@@ -1,8 +1,7 @@
 // Texts of expressions, as what they tell or why they are refused.
-use rvs_base::release;
+use rvs_base::{Fault, release};
 use rvs_expr::{Expr, ExprRefusal, NumName, parse_num, parse_reg};
 use rvs_expr_text::{Language, read_node};
-use rvs_fault::Fault;
 use rvs_free::Free;
 use std::alloc::Global;
 use std::test::Fail;

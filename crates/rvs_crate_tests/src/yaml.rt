@@ -1,6 +1,5 @@
 // Texts of the YAML profile, as their trees or as they are refused.
-use rvs_base::{number_below, release};
-use rvs_fault::Fault;
+use rvs_base::{Fault, number_below, release};
 use rvs_yaml::{Tree, YamlRefusal, parse};
 use std::alloc::Global;
 use std::test::Fail;

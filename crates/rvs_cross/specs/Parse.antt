@@ -22,8 +22,8 @@ use Rattle.rvs_cross.specs.declared.refusal.CrossRefusal.TheVariants.{Unassigned
 use Rattle.rvs_cross.specs.declared.refusal.CrossRefusal.TheVariants.{UnknownMnemonic, Expr}
 use Rattle.rvs_text.specs.Outcomes.{◌>>=◌}
 use Rattle.rvs_cross.specs.Outcomes.{Outcome}
-use Rattle.rvs_fault.specs.Answers.{AnswersWith}
-use Rattle.rvs_fault.specs.declared.faults.Fault.{Fault}
+use Rattle.rvs_base.specs.Answers.{AnswersWith}
+use Rattle.rvs_base.specs.declared.fault.Fault.{Fault}
 use Rattle.rvs_cross.specs.Lists.{Lists, lists, entries}
 use Rattle.rvs_cross.specs.Entries.{lists_ops, lists_sets, has_class, first_unknown, ops}
 use Rattle.rvs_cross.specs.Variables.{variables, sets}

@@ -4,16 +4,15 @@ ghost use Rattle.rvs_expr.specs.TypedView.{view};
 ghost use Rattle.rvs_cross.specs.declared.refusal.CrossRefusal.TheVariants as refusal;
 ghost use Rattle.rvs_text.specs.Bytes.{name_length};
 ghost use Rattle.rvs_cross.specs.CrossView.{place_view};
-ghost use Rattle.rvs_fault.specs.Answers.{AnswersWith, IfRefused};
+ghost use Rattle.rvs_base.specs.Answers.{AnswersWith, IfRefused};
 ghost use Rattle.rvs_cross.specs.Parse as spec;
 
 use crate::cross::Place;
 use crate::entries::ops;
 use crate::refusal::CrossRefusal;
 use crate::variables::sets;
-use rvs_base::{Items, Text, beside, release};
+use rvs_base::{Fault, Items, Text, beside, release};
 use rvs_expr::{Expr, ExprKind, ExprRefusal, parse_reg};
-use rvs_fault::Fault;
 use rvs_text::bytes::name_length;
 use rvs_text::trimmed;
 use std::alloc::Global;

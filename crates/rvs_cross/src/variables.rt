@@ -4,15 +4,14 @@ ghost use Rattle.std.specs.List.{filter_map, list_any, position};
 ghost use Rattle.rvs_text.specs.Parts.{parts};
 ghost use Rattle.rvs_cross.specs.Once.{each_once, with_one};
 ghost use Rattle.rvs_cross.specs.Outcomes.{for_each};
-ghost use Rattle.rvs_fault.specs.Answers.{AnswersWith};
+ghost use Rattle.rvs_base.specs.Answers.{AnswersWith};
 ghost use Rattle.rvs_cross.specs.Variables as spec;
 
 use crate::cross::{Assignment, Field, Variable};
 use crate::entries::assignment;
 use crate::refusal::CrossRefusal;
 use crate::used::same_variable;
-use rvs_base::{Items, Text, release};
-use rvs_fault::Fault;
+use rvs_base::{Fault, Items, Text, release};
 use rvs_text::parts;
 use std::alloc::{AllocError, Global};
 

@@ -35,3 +35,17 @@ points_more kind keys i d first before after p less inv is more =
     more ∙ ap (λ l. l ++ cons_option p []) inv ∙ append_assoc first points (cons_option p [])
     ∙ ap (λ o. first ++ (points ++ cons_option o [])) is
     ∙ ap (λ l. first ++ l) (sym (one_more kind keys i d less))
+
+-- points under seven kinds, one after the other
+pub all_added : (l0 l1 l2 l3 l4 l5 l6 l7 a b c d e f g : List Point) → l1 ≡ l0 ++ a → l2 ≡ l1 ++ b
+    → l3 ≡ l2 ++ c → l4 ≡ l3 ++ d → l5 ≡ l4 ++ e → l6 ≡ l5 ++ f → l7 ≡ l6 ++ g
+    → l7 ≡ l0 ++ (a ++ (b ++ (c ++ (d ++ (e ++ (f ++ g))))))
+all_added l0 l1 l2 l3 l4 l5 l6 l7 a b c d e f g e1 e2 e3 e4 e5 e6 e7 =
+    e7 ∙ ap (λ l. l ++ g) e6 ∙ append_assoc l5 f g
+    ∙ ap (λ l. l ++ (f ++ g)) e5 ∙ append_assoc l4 e (f ++ g)
+    ∙ ap (λ l. l ++ (e ++ (f ++ g))) e4 ∙ append_assoc l3 d (e ++ (f ++ g))
+    ∙ ap (λ l. l ++ (d ++ (e ++ (f ++ g)))) e3 ∙ append_assoc l2 c (d ++ (e ++ (f ++ g)))
+    ∙ ap (λ l. l ++ (c ++ (d ++ (e ++ (f ++ g))))) e2
+    ∙ append_assoc l1 b (c ++ (d ++ (e ++ (f ++ g))))
+    ∙ ap (λ l. l ++ (b ++ (c ++ (d ++ (e ++ (f ++ g)))))) e1
+    ∙ append_assoc l0 a (b ++ (c ++ (d ++ (e ++ (f ++ g)))))

@@ -13,27 +13,7 @@ use rvs_machine::Machine;
 use rvs_points::Groups;
 use std::alloc::Global;
 
-/// The group of the demonstration alone.
-fn groups(alloc: Global) -> Result<Groups, NoMemory>
-    ensures { IfOk result (λ groups. map label_view groups ≡ label ∷ []) }
-{
-    let mut groups: Groups = Items::new(alloc);
-    groups.push(label(alloc)?)?;
-    Ok(groups)
-}
-
-/// The report of what the program with so many generated instructions hits.
-fn report(alloc: Global, count: u64) -> Result<Text, NoMemory>
-    requires { count ≤ 1000000 }
-    ensures { IfOk result (λ text. text ≡ spec.report count) }
-{
-    let groups = groups(alloc)?;
-    let report = report_on(alloc, count, &groups);
-    release(groups);
-    report
-}
-
-/// The same, on these groups.
+/// The report of what the program with so many generated instructions hits of these groups.
 fn report_on(alloc: Global, count: u64, groups: &Groups) -> Result<Text, NoMemory>
     requires few { count ≤ 1000000 }
     requires groups { map label_view groups.now ≡ label ∷ [] }
@@ -63,6 +43,11 @@ pub fn demo_text(alloc: Global, size: DemoSize) -> Result<Text, NoMemory>
     ensures whole { spec.IsWhole size }
 {
     let count = size.count();
-    let report = report(alloc, count)?;
+    let label = label(alloc)?;
+    let mut groups: Groups = Items::new(alloc);
+    let ((), groups) = beside(groups.push(label), groups)?;
+    let outcome = report_on(alloc, count, &groups);
+    release(groups);
+    let report = outcome?;
     Ok(Text::from(format!(in alloc; "demo {count}\n{report}", report = report.as_str())?))
 }

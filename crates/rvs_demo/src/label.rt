@@ -44,82 +44,24 @@ fn add_points(
     Ok(())
 }
 
-#[tactic(auto, unfolding(crate::specs::Label::mnemonics))]
-fn add_mnemonics(alloc: Global, points: &mut Vec<Point>) -> Result<(), NoMemory>
-    ensures { OnOk result (map point_view points.new.items ≡ map point_view points.old.items
-        ++ spec.points_of Kind.Mnemonic spec.mnemonics) }
+/// Adds the points of the group.
+fn add_all(alloc: Global, points: &mut Vec<Point>) -> Result<(), NoMemory>
+    ensures { OnOk result (map point_view points.new.items
+        ≡ map point_view points.old.items ++ spec.points) }
 {
-    let keys = ["add", "sub", "xor", "or", "and", "slt", "sltu", "mul"];
-    add_points(alloc, points, Kind::Mnemonic, &keys)
-}
-
-/// Adds the points of the registers of the program.
-#[tactic(auto, unfolding(crate::specs::Label::registers))]
-fn add_registers(alloc: Global, points: &mut Vec<Point>, kind: Kind) -> Result<(), NoMemory>
-    ensures { OnOk result (map point_view points.new.items ≡ map point_view points.old.items
-        ++ spec.points_of kind spec.registers) }
-{
-    let keys = ["x8", "x9", "x10", "x11", "x12", "x13", "x14", "x15"];
-    add_points(alloc, points, kind, &keys)
-}
-
-#[tactic(auto, unfolding(crate::specs::Label::equations))]
-fn add_equations(alloc: Global, points: &mut Vec<Point>) -> Result<(), NoMemory>
-    ensures { OnOk result (map point_view points.new.items ≡ map point_view points.old.items
-        ++ spec.points_of Kind.OpComb spec.equations) }
-{
-    let keys = ["rs1 == rs2", "rs1 != rs2", "rs1 == rd"];
-    add_points(alloc, points, Kind::OpComb, &keys)
-}
-
-#[tactic(auto, unfolding(crate::specs::Label::comparisons))]
-fn add_comparisons(alloc: Global, points: &mut Vec<Point>) -> Result<(), NoMemory>
-    ensures { OnOk result (map point_view points.new.items ≡ map point_view points.old.items
-        ++ spec.points_of Kind.ValComb spec.comparisons) }
-{
-    let keys = ["rs1_val > 0", "rs1_val < 0", "rs1_val == 0"];
-    add_points(alloc, points, Kind::ValComb, &keys)
-}
-
-#[tactic(auto, unfolding(crate::specs::Label::hazards))]
-fn add_hazards(alloc: Global, points: &mut Vec<Point>) -> Result<(), NoMemory>
-    ensures { OnOk result (map point_view points.new.items ≡ map point_view points.old.items
-        ++ spec.points_of Kind.CrossComb spec.hazards) }
-{
-    let keys = ["[? : ?] :: [a=rd : ?] :: [? : rs1 == a or rs2 == a]"];
-    add_points(alloc, points, Kind::CrossComb, &keys)
-}
-
-/// The points of the group.
-fn points(alloc: Global) -> Result<Vec<Point>, NoMemory>
-    ensures { IfOk result (λ points. map point_view points.items ≡ spec.points) }
-{
-    let mut points = Vec::new(alloc);
-    add_mnemonics(alloc, &mut points)?;
-    add_registers(alloc, &mut points, Kind::Rs1)?;
-    add_registers(alloc, &mut points, Kind::Rs2)?;
-    add_registers(alloc, &mut points, Kind::Rd)?;
-    add_equations(alloc, &mut points)?;
-    add_comparisons(alloc, &mut points)?;
-    add_hazards(alloc, &mut points)?;
-    Ok(points)
-}
-
-/// The mnemonics of the group, in order.
-fn ops(alloc: Global) -> Result<Vec<Op>, NoMemory>
-    ensures { IfOk result (λ ops. ops.items ≡ spec.ops) }
-{
-    let ops = [
-        Op::Add,
-        Op::Sub,
-        Op::Xor,
-        Op::Or,
-        Op::And,
-        Op::Slt,
-        Op::Sltu,
-        Op::Mul,
-    ];
-    Ok(ops.to_vec(alloc)?)
+    let mnemonics = ["add", "sub", "xor", "or", "and", "slt", "sltu", "mul"];
+    let registers = ["x8", "x9", "x10", "x11", "x12", "x13", "x14", "x15"];
+    let equations = ["rs1 == rs2", "rs1 != rs2", "rs1 == rd"];
+    let comparisons = ["rs1_val > 0", "rs1_val < 0", "rs1_val == 0"];
+    let hazards = ["[? : ?] :: [a=rd : ?] :: [? : rs1 == a or rs2 == a]"];
+    add_points(alloc, points, Kind::Mnemonic, &mnemonics)?;
+    add_points(alloc, points, Kind::Rs1, &registers)?;
+    add_points(alloc, points, Kind::Rs2, &registers)?;
+    add_points(alloc, points, Kind::Rd, &registers)?;
+    add_points(alloc, points, Kind::OpComb, &equations)?;
+    add_points(alloc, points, Kind::ValComb, &comparisons)?;
+    add_points(alloc, points, Kind::CrossComb, &hazards)?;
+    Ok(())
 }
 
 /// The group of the demonstration: its eight mnemonics, the registers x8 to x15, equations,
@@ -132,11 +74,25 @@ fn ops(alloc: Global) -> Result<Vec<Op>, NoMemory>
 pub(crate) fn label(alloc: Global) -> Result<Label, NoMemory>
     ensures { IfOk result (λ label. label_view label ≡ spec.label) }
 {
+    let mut points = Vec::new(alloc);
+    let ((), points) = beside(add_all(alloc, &mut points), points)?;
+    let ops = [
+        Op::Add,
+        Op::Sub,
+        Op::Xor,
+        Op::Or,
+        Op::And,
+        Op::Slt,
+        Op::Sltu,
+        Op::Mul,
+    ];
+    let (ops, points) = beside(ops.to_vec(alloc), points)?;
+    let (name, (ops, points)) = beside(String::from_str(alloc, "demo"), (ops, points))?;
     Ok(Label {
-        name: Text::from(String::from_str(alloc, "demo")?),
+        name: Text::from(name),
         selected: true,
-        ops: Items::from(ops(alloc)?),
-        points: Items::from(points(alloc)?),
+        ops: Items::from(ops),
+        points: Items::from(points),
         skipped: Items::new(alloc),
     })
 }

@@ -22,15 +22,6 @@ pub(crate) const CORE: IsaSpec = IsaSpec {
     memory: USUAL_MEMORY,
 };
 
-/// The number behind one, of those that the program is drawn from.
-fn next_seed(seed: u64) -> u64
-    requires { seed < 2 ^ 31 }
-    ensures next { result ≡ spec.next_seed seed }
-    ensures low { result < 2 ^ 31 }
-{
-    (seed * 1_103_515_245 + 12_345) % 0x8000_0000
-}
-
 /// The bits that the words of the mnemonic of a number below 8 have in common.
 fn drawn_bits(number: u64) -> u32
     ensures bits { result ≡ (row (spec.drawn_op number)).bits }
@@ -48,39 +39,15 @@ fn drawn_bits(number: u64) -> u32
     }
 }
 
-/// One of x8 to x15.
-fn drawn_register(number: u64) -> u32
-    ensures register { result ≡ 8 + number % 8 }
-    ensures low { result < 32 }
-{
-    8 + (number % 8) as u32
-}
-
 /// The word of an instruction over x8 to x15, which are all of the format R.
 #[tactic(auto, using(crate::proofs::Drawn::drawn_word))]
 fn drawn_word(number: u64) -> u32
     ensures { result ≡ word_of (spec.drawn number) }
 {
-    let rd = drawn_register(number / 8);
-    let rs1 = drawn_register(number / 64);
-    let rs2 = drawn_register(number / 512);
+    let rd = 8 + (number / 8 % 8) as u32;
+    let rs1 = 8 + (number / 64 % 8) as u32;
+    let rs2 = 8 + (number / 512 % 8) as u32;
     drawn_bits(number % 8) + 0x80 * rd + 0x8000 * rs1 + 0x10_0000 * rs2
-}
-
-fn push_drawn(text: &mut Vec<u8>, number: u64) -> Result<(), NoMemory>
-    ensures { OnOk result (text.new.items
-        ≡ text.old.items ++ to_le_bytes w32 (word_of (spec.drawn number))) }
-{
-    text.extend_from_slice(&drawn_word(number).to_le_bytes())?;
-    Ok(())
-}
-
-fn push_insn(text: &mut Vec<u8>, insn: &Insn) -> Result<(), NoMemory>
-    requires { IsEncodable insn.now }
-    ensures { OnOk result (text.new.items ≡ text.old.items ++ to_le_bytes w32 (word_of insn.now)) }
-{
-    text.extend_from_slice(&encode(insn).to_le_bytes())?;
-    Ok(())
 }
 
 /// Adds instructions that are drawn from the seeds behind one.
@@ -91,8 +58,8 @@ fn push_generated(text: &mut Vec<u8>, count: u64, seed: u64) -> Result<(), NoMem
 {
     let mut state = seed;
     for _ in 0..count {
-        state = next_seed(state);
-        push_drawn(text, state / 256)?;
+        state = (state * 1_103_515_245 + 12_345) % 0x8000_0000;
+        text.extend_from_slice(&drawn_word(state / 256).to_le_bytes())?;
     }
     Ok(())
 }
@@ -103,7 +70,7 @@ fn push_insns(text: &mut Vec<u8>, insns: &[Insn]) -> Result<(), NoMemory>
     ensures { OnOk result (text.new.items ≡ text.old.items ++ spec.code insns.now) }
 {
     for insn in insns {
-        push_insn(text, insn)?;
+        text.extend_from_slice(&encode(insn).to_le_bytes())?;
     }
     Ok(())
 }
@@ -121,25 +88,6 @@ fn own_number(register: u8) -> Insn
         rs2: None,
         imm: Some(i32::from(register)),
     }
-}
-
-/// Adds that x8 to x15 get their own numbers.
-fn push_beginning(text: &mut Vec<u8>) -> Result<(), NoMemory>
-    ensures { OnOk result (text.new.items ≡ text.old.items ++ spec.code spec.beginning) }
-{
-    push_insns(
-        text,
-        &[
-            own_number(8),
-            own_number(9),
-            own_number(10),
-            own_number(11),
-            own_number(12),
-            own_number(13),
-            own_number(14),
-            own_number(15),
-        ],
-    )
 }
 
 /// Adds that a word of 1 is stored where it halts the run.
@@ -176,7 +124,17 @@ fn text(alloc: Global, count: u64) -> Result<Vec<u8>, NoMemory>
     ensures { IfOk result (λ text. text.items ≡ spec.code (spec.program count)) }
 {
     let mut text = Vec::new(alloc);
-    push_beginning(&mut text)?;
+    let beginning = [
+        own_number(8),
+        own_number(9),
+        own_number(10),
+        own_number(11),
+        own_number(12),
+        own_number(13),
+        own_number(14),
+        own_number(15),
+    ];
+    push_insns(&mut text, &beginning)?;
     push_generated(&mut text, count, count)?;
     push_ending(&mut text)?;
     Ok(text)

@@ -1,13 +1,12 @@
 // The lines of verdicts, and the texts of refusals.
-ghost use Rattle.std.specs.Prelude.{◌≡◌, ℕ, IfOk};
+ghost use Rattle.std.specs.Prelude.{◌≡◌, ◌++◌, ℕ, IfOk, codes};
+ghost use Rattle.std.specs.Fmt.{signed_decimal};
 ghost use Rattle.rvs_base.specs.Number.{hex_word_of};
 ghost use Rattle.rvs_device.specs.Printed.{bad_signature_line, differs_line, lengths_line};
-ghost use Rattle.rvs_device.specs.Printed.{no_signature_line, pass_line, refusal_text};
-ghost use Rattle.rvs_device.specs.Printed.{too_long_line, verdict_line};
+ghost use Rattle.rvs_device.specs.Printed.{pass_line, refusal_text, verdict_line};
 
 use crate::{DeviceRefusal, TestVerdict};
-use rvs_base::{NoMemory, Text, hex_text};
-use rvs_fault::Refusal;
+use rvs_base::{NoMemory, Refusal, Text, hex_text};
 use std::alloc::Global;
 
 /// The line of a verdict on the test of this label.
@@ -15,13 +14,14 @@ use std::alloc::Global;
 /// # Errors
 ///
 /// [`NoMemory`].
+#[tactic(auto, unfolding(crate::specs::Printed::too_long_line))]
 pub fn verdict_line(alloc: Global, label: &str, verdict: &TestVerdict) -> Result<Text, NoMemory>
     ensures { IfOk result (λ line. line ≡ verdict_line label.now verdict.now) }
 {
     match *verdict {
         TestVerdict::Pass { n, status } => pass_line(alloc, label, n, status),
-        TestVerdict::NoSignature { status } => no_signature_line(alloc, label, status),
-        TestVerdict::TooLong { status } => too_long_line(alloc, label, status),
+        TestVerdict::NoSignature { status } => fail_line(alloc, label, "no signature", status),
+        TestVerdict::TooLong { status } => fail_line(alloc, label, "signature too long", status),
         TestVerdict::BadSignature { line, status } => bad_signature_line(
             alloc, label, line, status,
         ),
@@ -50,18 +50,12 @@ fn pass_line(alloc: Global, label: &str, n: usize, status: i32) -> Result<Text, 
     Ok(Text::from(format!(in alloc; "PASS {label} {n} words, status {status}\n")?))
 }
 
-#[tactic(auto, unfolding(crate::specs::Printed::no_signature_line))]
-fn no_signature_line(alloc: Global, label: &str, status: i32) -> Result<Text, NoMemory>
-    ensures { IfOk result (λ line. line ≡ no_signature_line label.now status) }
+/// The line of a failure that is told without a number.
+fn fail_line(alloc: Global, label: &str, why: &str, status: i32) -> Result<Text, NoMemory>
+    ensures { IfOk result (λ line. line ≡ codes "FAIL " ++ (label.now ++ (codes " " ++ (why.now
+        ++ (codes ", status " ++ (signed_decimal status ++ codes "\n")))))) }
 {
-    Ok(Text::from(format!(in alloc; "FAIL {label} no signature, status {status}\n")?))
-}
-
-#[tactic(auto, unfolding(crate::specs::Printed::too_long_line))]
-fn too_long_line(alloc: Global, label: &str, status: i32) -> Result<Text, NoMemory>
-    ensures { IfOk result (λ line. line ≡ too_long_line label.now status) }
-{
-    Ok(Text::from(format!(in alloc; "FAIL {label} signature too long, status {status}\n")?))
+    Ok(Text::from(format!(in alloc; "FAIL {label} {why}, status {status}\n")?))
 }
 
 #[tactic(auto, unfolding(crate::specs::Printed::bad_signature_line))]

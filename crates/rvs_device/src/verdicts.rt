@@ -3,8 +3,7 @@ ghost use Rattle.std.specs.Prelude.{◌≡◌, ◌≤◌, Some, length, IfOk};
 ghost use Rattle.rvs_sig.specs.Verdicts.{verdict_of};
 ghost use Rattle.rvs_device.specs.Judged.{compared, signature_limit, verdict_on};
 
-use rvs_base::NoMemory;
-use rvs_fault::Fault;
+use rvs_base::{Fault, NoMemory};
 use rvs_sig::{SigRefusal, Verdict, compare, read_words};
 use std::alloc::Global;
 

@@ -2,8 +2,7 @@
 ghost use Rattle.rvs_elf.specs.Numbers.{refusal_text};
 
 use crate::ElfRefusal;
-use rvs_base::{NoMemory, Text};
-use rvs_fault::Refusal;
+use rvs_base::{NoMemory, Refusal, Text};
 use std::alloc::Global;
 
 impl Refusal for ElfRefusal {

@@ -1,7 +1,7 @@
 // Whether a core has room for the tests of labels.
 ghost use Rattle.std.specs.Prelude.{◌≡◌, ◌<◌, All, IfOk, find, option_map};
 ghost use Rattle.rvs_base.specs.Sink.{SinkState};
-ghost use Rattle.rvs_fault.specs.Answers.{seen};
+ghost use Rattle.rvs_base.specs.Answers.{seen};
 ghost use Rattle.rvs_plan.specs.World.{World, world};
 ghost use Rattle.rvs_plan.specs.Plan.{Ends};
 ghost use Rattle.rvs_plan.specs.Meets.{Meets};

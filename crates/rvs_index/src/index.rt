@@ -1,35 +1,28 @@
 // The points by mnemonic and by shape.
-ghost use Rattle.std.specs.Prelude.{◌≡◌, ◌≤◌, ◌<◌, ◌^◌, ◌&&◌, [], All, IfOk, IfSome, OnOk, Some};
+ghost use Rattle.std.specs.Prelude.{◌≡◌, ◌≤◌, ◌<◌, ◌^◌, ◌&&◌, All, IfOk, IfSome, Some};
 ghost use Rattle.std.specs.Prelude.{◌*◌, length, ℕ, List, false, option_map, pos, true};
 ghost use Rattle.std.specs.Prelude.{unsigned_abs};
 ghost use Rattle.rvs_machine.specs.Traces.{word_of};
 ghost use Rattle.rvs_facts.specs.Facts.{facts_of as table_of};
-ghost use Rattle.rvs_insn.specs.Table.{op_count};
 ghost use Rattle.rvs_index.specs.Buckets.{is_seen, bucket_count};
 ghost use Rattle.rvs_index.specs.Cells as cell;
-ghost use Rattle.rvs_index.specs.Cells.{HasCells, Fits};
+ghost use Rattle.rvs_index.specs.Cells.{Fits};
 ghost use Rattle.rvs_index.specs.Counting.{aims_in, hits_insn};
 ghost use Rattle.rvs_index.specs.Entries as entry;
-ghost use Rattle.rvs_index.specs.Entries.{HasEntries, register_count};
-ghost use Rattle.rvs_index.specs.Index.{IsIndex, insns_key};
-ghost use Rattle.rvs_index.specs.Marks.{HasFirstHeads, HasPlaceHeads};
-ghost use Rattle.rvs_index.specs.Shared.{HasBlocks};
 ghost use Rattle.rvs_index.specs.State.{added};
-ghost use Rattle.rvs_index.specs.Wanted.{HasWanted};
 ghost use Rattle.rvs_index.specs.declared.asked.Asked.TheVariants as fact;
 ghost use Rattle.rvs_log.specs.Lines.{log_limit};
 
-use crate::alike::fill_blocks;
 use crate::asked::{Asked, asked_bucket};
 use crate::buckets::BUCKETS;
-use crate::cell::{Cell, add_cell, fill_cells, may_hit};
-use crate::entries::{REGISTERS, add_entry, field_of, fill_entries, is_look};
+use crate::cell::{Cell, add_cell, may_hit};
+use crate::entries::{REGISTERS, add_entry, field_of, is_look};
 use crate::hits::add_insn;
 use crate::known_facts::{Known, take_facts};
-use crate::mark::{Head, PLACES, add_groups, add_groups_apart, fill_heads, fill_places};
+use crate::mark::{Head, PLACES, add_groups, add_groups_apart};
 use crate::slot::Slot;
-use crate::sorted::add_lists;
-use crate::wanted::{Wanted, fill_wanted};
+use crate::tables::{Tables, fill};
+use crate::wanted::Wanted;
 use rvs_base::{Items, NoMemory, beside};
 use rvs_facts::number;
 use rvs_insn::{Insn, OP_COUNT};
@@ -87,69 +80,6 @@ impl<'g> Model for Index<'g> {
         × HasWanted i.lists i.wanted × (length i.wanted ≡ op_count)
         × HasEntries i.cells i.entries × (length i.entries ≡ op_count * register_count)
         × HasPlaceHeads i.lists i.places × (length i.places ≡ 4 * op_count) };
-}
-
-/// The lists of all mnemonics and buckets.
-fn fill_lists<'g>(
-    alloc: Global,
-    lists: &mut Items<Items<Slot<'g>>>,
-    labels: &'g [Label],
-) -> Result<(), NoMemory>
-    requires room { length (aims_in labels.now) < 2 ^ 63 }
-    requires none { lists.old ≡ [] }
-    ensures index { OnOk result (IsIndex insns_key labels.now lists.new) }
-    ensures all { OnOk result (length lists.new ≡ op_count * bucket_count) }
-{
-    for mnemonic in 0..OP_COUNT {
-        add_lists(alloc, lists, labels, mnemonic)?;
-    }
-    Ok(())
-}
-
-/// The tables of an index, which are filled one after another.
-#[derive(Drop)]
-struct Tables<'g> {
-    lists: Items<Items<Slot<'g>>>,
-    cells: Items<Cell>,
-    heads: Items<Head>,
-    blocks: Items<usize>,
-    wanted: Items<Wanted>,
-    entries: Items<u32>,
-    places: Items<Head>,
-}
-
-/// Fills the tables of these labels.
-fn fill<'g>(alloc: Global, labels: &'g [Label], tables: &mut Tables<'g>) -> Result<(), NoMemory>
-    requires room { length (aims_in labels.now) < 2 ^ 63 }
-    requires lists { tables.old.lists ≡ [] }
-    requires cells { tables.old.cells ≡ [] }
-    requires heads { tables.old.heads ≡ [] }
-    requires blocks { tables.old.blocks ≡ [] }
-    requires wanted { tables.old.wanted ≡ [] }
-    requires entries { tables.old.entries ≡ [] }
-    requires places { tables.old.places ≡ [] }
-    ensures lists { OnOk result (IsIndex insns_key labels.now tables.new.lists
-        × (length tables.new.lists ≡ op_count * bucket_count)) }
-    ensures cells { OnOk result (HasCells tables.new.lists tables.new.cells
-        × (length tables.new.cells ≡ op_count * bucket_count)) }
-    ensures heads { OnOk result (HasFirstHeads tables.new.lists tables.new.heads
-        × (length tables.new.heads ≡ op_count)) }
-    ensures blocks { OnOk result (HasBlocks tables.new.cells tables.new.blocks
-        × (length tables.new.blocks ≡ op_count)) }
-    ensures wanted { OnOk result (HasWanted tables.new.lists tables.new.wanted
-        × (length tables.new.wanted ≡ op_count)) }
-    ensures entries { OnOk result (HasEntries tables.new.cells tables.new.entries
-        × (length tables.new.entries ≡ op_count * register_count)) }
-    ensures places { OnOk result (HasPlaceHeads tables.new.lists tables.new.places) }
-    ensures all { OnOk result (length tables.new.places ≡ 4 * op_count) }
-{
-    fill_lists(alloc, &mut tables.lists, labels)?;
-    fill_cells(&mut tables.cells, tables.lists.as_slice())?;
-    fill_heads(alloc, &mut tables.heads, tables.lists.as_slice())?;
-    fill_blocks(&mut tables.blocks, tables.cells.as_slice())?;
-    fill_wanted(&mut tables.wanted, tables.lists.as_slice())?;
-    fill_entries(&mut tables.entries, tables.cells.as_slice())?;
-    fill_places(alloc, &mut tables.places, tables.lists.as_slice())
 }
 
 /// A value as the place that an address has within its word.

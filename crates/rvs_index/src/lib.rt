@@ -20,6 +20,7 @@ mod shortcut;
 mod slot;
 mod slots;
 mod sorted;
+mod tables;
 mod taken;
 mod wanted;
 

@@ -1,8 +1,8 @@
 -- What comes of pieces of work that have no effects.
 use Rattle.std.proofs.Common.{◌≡◌, ◌∙◌, ℕ, List, Result, Ok, Err, refl, sym, ap, subst, inl, inr}
-use Rattle.rvs_fault.specs.Answers.{Answers, AnswersAs, seen}
-use Rattle.rvs_fault.specs.declared.faults.Fault.{Fault}
-use Rattle.rvs_fault.specs.declared.faults.Fault.TheVariants as fault
+use Rattle.rvs_base.specs.Answers.{Answers, AnswersAs, seen}
+use Rattle.rvs_base.specs.declared.fault.Fault.{Fault}
+use Rattle.rvs_base.specs.declared.fault.Fault.TheVariants as fault
 use Rattle.rvs_plan.specs.World.{World, contents}
 use Rattle.rvs_plan.specs.Plan.{Ends}
 use Rattle.rvs_plan.specs.Meets.{Meets}

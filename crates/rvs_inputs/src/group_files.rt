@@ -1,26 +1,23 @@
 // Reading coverage group files.
 ghost use Rattle.std.specs.Prelude.{◌≡◌, All, Option, IfOk};
 ghost use Rattle.rvs_base.specs.Sink.{SinkState};
-ghost use Rattle.rvs_fault.specs.Answers.{seen};
+ghost use Rattle.rvs_base.specs.Answers.{seen};
 ghost use Rattle.rvs_plan.specs.World.{World, world};
 ghost use Rattle.rvs_plan.specs.Plan.{Ends};
 ghost use Rattle.rvs_plan.specs.Meets.{Meets};
-ghost use Rattle.rvs_tree.specs.TreeView.{view};
 ghost use Rattle.rvs_cgf.specs.GroupView.{label_view};
 ghost use Rattle.rvs_points.specs.Valid.{IsValidIfSelected};
-ghost use Rattle.rvs_cgf.specs.Groups.{groups_of};
 ghost use Rattle.rvs_inputs.specs.GroupsView.{groups_view, inputs_view};
 ghost use Rattle.rvs_inputs.specs.GroupFiles.{joined, joins, joins_all, room, within_limit};
-ghost use Rattle.rvs_inputs.specs.GroupFiles.{checked_groups, groups_found, group_files};
-ghost use Rattle.rvs_inputs.specs.GroupFiles.{group_inputs};
+ghost use Rattle.rvs_inputs.specs.GroupFiles.{group_files, group_inputs};
 
 use crate::isa_file::read_isa;
 use rvs_abstract::Families;
-use rvs_base::{Bytes, Host, Items, NoMemory, Text};
+use rvs_base::{Bytes, Host, Items, NoMemory, Text, release};
 use rvs_cgf::{Groups, read_groups};
 use rvs_insn::IsaSpec;
 use rvs_plan::{Stop, accepted, read_part, too_long};
-use rvs_yaml::{Tree, parse};
+use rvs_yaml::parse;
 use std::alloc::Global;
 
 /// The greatest length in bytes of all group files together, with the line feeds between them:
@@ -39,7 +36,9 @@ pub struct Inputs {
 
 /// Lets inputs go. Who reads them does so by this call: how each part of them is let go would be
 /// proved once more in a crate that let them go itself.
-pub fn release_inputs(_inputs: Inputs) {}
+pub fn release_inputs(inputs: Inputs) {
+    release(inputs)
+}
 
 /// Reads an ISA file, and then coverage group files for its core, by the families that are read.
 ///
@@ -64,7 +63,7 @@ pub fn read_inputs<H: Host>(
 }
 
 /// Reads the named group files, joins them in order with a line feed between, and reads the groups
-/// of that text for a core.
+/// of that text for a core. The text is let go before they are made.
 ///
 /// # Errors
 ///
@@ -82,7 +81,9 @@ fn read_group_files<H: Host>(
     ensures valid { IfOk result (All (λ l. IsValidIfSelected isa.now (label_view l))) }
 {
     let text = read_joined(alloc, host, names.as_slice())?;
-    check_text(alloc, isa, families, text)
+    let tree = accepted(alloc, GROUPS_NAME, parse(alloc, text.as_slice()))?;
+    drop(text);
+    accepted(alloc, GROUPS_NAME, read_groups(alloc, &tree, isa, families))
 }
 
 /// The text of the named files, joined in order with a line feed between.
@@ -135,17 +136,13 @@ fn joined(front: Option<Bytes>, bytes: Bytes) -> Result<Bytes, NoMemory>
 {
     match front {
         None => Ok(bytes),
-        Some(text) => joined_behind(text, bytes.as_slice()),
+        Some(text) => {
+            let mut text = text.into_vec();
+            text.push(b'\n')?;
+            text.extend_from_slice(bytes.as_slice())?;
+            Ok(Items::from(text))
+        },
     }
-}
-
-fn joined_behind(front: Bytes, bytes: &[u8]) -> Result<Bytes, NoMemory>
-    ensures { IfOk result (λ text. text ≡ joined (Option.Some front) bytes.now) }
-{
-    let mut text = front.into_vec();
-    text.push(b'\n')?;
-    text.extend_from_slice(bytes)?;
-    Ok(Items::from(text))
 }
 
 fn within_limit(alloc: Global, text: Bytes) -> Result<Bytes, Stop>
@@ -156,29 +153,4 @@ fn within_limit(alloc: Global, text: Bytes) -> Result<Bytes, Stop>
     } else {
         Ok(text)
     }
-}
-
-/// The groups of a text, which is let go before they are made.
-fn check_text(alloc: Global, isa: &IsaSpec, families: Families, text: Bytes) -> Result<Groups, Stop>
-    ensures met { (w : World) → Meets (Ends (groups_found isa.now families text)) w w
-        (seen groups_view result) }
-    ensures valid { IfOk result (All (λ l. IsValidIfSelected isa.now (label_view l))) }
-{
-    let tree = accepted(alloc, GROUPS_NAME, parse(alloc, text.as_slice()))?;
-    drop(text);
-    accept_groups(alloc, isa, families, &tree)
-}
-
-fn accept_groups(
-    alloc: Global,
-    isa: &IsaSpec,
-    families: Families,
-    tree: &Tree,
-) -> Result<Groups, Stop>
-    ensures met { (w : World) → Meets
-        (Ends (checked_groups (groups_of isa.now families (view tree.now)))) w w
-        (seen groups_view result) }
-    ensures valid { IfOk result (All (λ l. IsValidIfSelected isa.now (label_view l))) }
-{
-    accepted(alloc, GROUPS_NAME, read_groups(alloc, tree, isa, families))
 }

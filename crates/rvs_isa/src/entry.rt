@@ -1,6 +1,6 @@
 // The entries of a specification, and refusals at them.
 ghost use Rattle.std.specs.Prelude.{◌≡◌, IfOk, map, option_map};
-ghost use Rattle.rvs_fault.specs.Answers.{Answers, AnswersWith, IfRefused};
+ghost use Rattle.rvs_base.specs.Answers.{Answers, AnswersWith, IfRefused};
 ghost use Rattle.rvs_tree.specs.Data.{value_at};
 ghost use Rattle.rvs_tree.specs.TreeView.{view};
 ghost use Rattle.rvs_isa.specs.Entries.{entry_at};
@@ -8,8 +8,7 @@ ghost use Rattle.rvs_isa.specs.Check.{needed, is_a_map};
 ghost use Rattle.rvs_isa.specs.Refusal.{path_text, refusal_at};
 
 use crate::refusal::{IsaKind, IsaRefusal};
-use rvs_base::{NoMemory, Text};
-use rvs_fault::Fault;
+use rvs_base::{Fault, NoMemory, Text};
 use rvs_tree::Tree;
 use std::alloc::Global;
 

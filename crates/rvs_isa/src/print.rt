@@ -6,8 +6,7 @@ ghost use Rattle.rvs_isa.specs.Print.{word_text, words_text, memory_lines, said_
 use crate::accepted_spec::AcceptedSpec;
 use crate::misa::misa_word;
 use crate::refusal::{IsaKind, IsaRefusal};
-use rvs_base::{NoMemory, Text, hex_text};
-use rvs_fault::Refusal;
+use rvs_base::{NoMemory, Refusal, Text, hex_text};
 use rvs_insn::{IsaSpec, MemoryMap, isa_text};
 use std::alloc::Global;
 

@@ -1,6 +1,6 @@
 // The image file.
 ghost use Rattle.std.specs.Prelude.{◌≡◌, MatchOption, MatchResult, option_and_then};
-ghost use Rattle.rvs_fault.specs.Answers.{Answers, AnswersWith};
+ghost use Rattle.rvs_base.specs.Answers.{Answers, AnswersWith};
 ghost use Rattle.rvs_machine.specs.ImageText.{word_in, count_in, after_name, refusal};
 ghost use Rattle.rvs_machine.specs.ImageText.{header, word_line, count_line, word_lines, section};
 ghost use Rattle.rvs_machine.specs.ImageText.{address_lines, image_of_bytes, whole};
@@ -8,8 +8,7 @@ ghost use Rattle.rvs_machine.specs.ImageNumbers.{image_number};
 
 use crate::image::Image;
 use crate::lines::Lines;
-use rvs_base::{Bytes, Items, beside, release, short_number};
-use rvs_fault::Fault;
+use rvs_base::{Bytes, Fault, Items, beside, release, short_number};
 use rvs_insn::MemoryMap;
 use std::alloc::Global;
 
@@ -46,7 +45,7 @@ pub struct ImageRefusal {
 }
 
 impl From<ImageRefusal> for Fault<ImageRefusal> {
-    ghost use Rattle.rvs_fault.specs.declared.faults.Fault.TheVariants.{Refused};
+    ghost use Rattle.rvs_base.specs.declared.fault.Fault.TheVariants.{Refused};
 
     ghost from_gives = { λ refusal fault. fault ≡ Refused refusal };
 

@@ -6,7 +6,8 @@ ghost use Rattle.rvs_base.specs.Faults.{raised};
 ghost use Rattle.rvs_base.specs.Host.{IsClosed, ReadsOnly, Opens, OpenCause, Takes, Tells};
 ghost use Rattle.rvs_base.specs.Host.{WritesOnly, MaySpoil, written, with_file, device_words};
 ghost use Rattle.rvs_base.specs.Host.{RunsOnly, RunsDevice, FailsRun, IsUnread};
-ghost use Rattle.rvs_memory.specs.Memory.{HasReason, HasRunReason, IsAnswered, IsCounted, IsNumbered};
+ghost use Rattle.rvs_memory.specs.Memory.{HasReason, HasRunReason, IsAnswered};
+ghost use Rattle.rvs_memory.specs.Memory.{IsCounted, IsNumbered};
 ghost use Rattle.rvs_memory.specs.Memory.{held, new_host, told_by};
 ghost use Rattle.rvs_memory.specs.Cursor.{rest_of};
 

@@ -1,12 +1,11 @@
 -- Keys and names that differ.
 use Rattle.std.proofs.Common.{◌≡◌, ℕ, true, false, List, [], ◌∷◌, ◌++◌, refl}
 use Rattle.std.proofs.Common.{arith, rules}
-use Rattle.std.proofs.lemmas.Bool.{or_parts}
+use Rattle.std.proofs.lemmas.Bool.{or_parts, and_parts}
 use Rattle.std.specs.Prelude.{not, map, bytes_eq}
 use Rattle.std.specs.List.{list_any}
 use Rattle.std.proofs.lemmas.List.Folds.{list_any-append}
 use Rattle.std.proofs.lemmas.Slice.Eq.{bytes_eq-Decides}
-use Rattle.rvs_yaml.proofs.WholeLines.{both_true}
 use Rattle.rvs_tree.specs.Value.{has_key}
 use Rattle.rvs_cgf.specs.Groups.{Point, Label, same_kind, is_point, has, role_of}
 use Rattle.rvs_points.specs.declared.group.Kind.{Kind}
@@ -95,7 +94,7 @@ joined-distinct p bs n d = grind arith
 pub distinct-blocks : (ps : List Point) → are_distinct ps ≡ true → AllDistinct (blocks ps)
 distinct-blocks [] h = tt
 distinct-blocks (p ∷ ps) h =
-    let q = both_true (not (has p.kind p.key ps)) (are_distinct ps) h in
+    let q = and_parts (not (has p.kind p.key ps)) (are_distinct ps) h in
     joined-distinct p (blocks ps) (not-has p.kind p.key ps (not-true (has p.kind p.key ps) q.0))
     (distinct-blocks ps q.1)
 
@@ -111,7 +110,7 @@ pub node-names : (bs : List Block) → kinds_are_apart bs ≡ true
     → Distinct (map (λ b. kind_name b.kind) bs)
 node-names [] h = tt
 node-names (b ∷ bs) h =
-    let p = both_true (not (list_any (λ c. same_kind c.kind b.kind) bs)) (kinds_are_apart bs) h in (
+    let p = and_parts (not (list_any (λ c. same_kind c.kind b.kind) bs)) (kinds_are_apart bs) h in (
       other-names b bs (not-true (list_any (λ c. same_kind c.kind b.kind) bs) p.0),
       node-names bs p.1,
     )
@@ -127,7 +126,7 @@ other-labels l (m ∷ ls) h =
 pub label-names : (ls : List Label) → names_are_apart ls ≡ true → Distinct (map (λ l. l.name) ls)
 label-names [] h = tt
 label-names (l ∷ ls) h =
-    let p = both_true (not (list_any (λ m. bytes_eq l.name m.name) ls)) (names_are_apart ls) h in (
+    let p = and_parts (not (list_any (λ m. bytes_eq l.name m.name) ls)) (names_are_apart ls) h in (
       other-labels l ls (not-true (list_any (λ m. bytes_eq l.name m.name) ls) p.0),
       label-names ls p.1,
     )

@@ -1,13 +1,12 @@
 -- Each map of an accepted text has each of its keys once.
 use Rattle.std.proofs.Common.{◌≡◌, ℕ, Bool, true, false, List, [], ◌∷◌, ◌++◌, refl, sym, ap, subst}
 use Rattle.std.proofs.Common.{◌∙◌, append_assoc, append-nil, arith, rules}
-use Rattle.std.proofs.lemmas.Bool.{and_from, or_parts, not_from_false}
+use Rattle.std.proofs.lemmas.Bool.{and_from, or_parts, not_from_false, and_parts}
 use Rattle.std.specs.Prelude.{◌||◌, not, bytes_eq}
 use Rattle.std.specs.List.{list_any}
 use mathlib.Core.Bool.{cond}
 use Rattle.std.proofs.lemmas.List.Folds.{list_any-append}
 use Rattle.rvs_tree.proofs.Views.{pairs_of-entries_of}
-use Rattle.rvs_yaml.proofs.WholeLines.{both_true}
 use Rattle.rvs_tree.specs.Data.{Data, Items, no_items, item, items_of}
 use Rattle.rvs_tree.specs.Data.{list_of, Entries, no_entries, entry, entries_of, pairs_of, Pairs}
 use Rattle.rvs_tree.specs.Data.{own_pairs}
@@ -70,7 +69,7 @@ own-pushed : (ps : Pairs) (p : List ℕ × Data) → keys_are_own ps ≡ true
     → has_key p.0 (keys_of ps) ≡ false → keys_are_own (ps ++ (p ∷ [])) ≡ true
 own-pushed [] p h k = refl
 own-pushed (q ∷ qs) p h k =
-    let a = both_true (not (list_any (λ f. bytes_eq f.0 q.0) qs)) (keys_are_own qs) h in
+    let a = and_parts (not (list_any (λ f. bytes_eq f.0 q.0) qs)) (keys_are_own qs) h in
     let b = or_parts (bytes_eq q.0 p.0) (has_key p.0 (keys_of qs)) k in
     and_from (not (list_any (λ f. bytes_eq f.0 q.0) (qs ++ (p ∷ []))))
     (keys_are_own (qs ++ (p ∷ [])))

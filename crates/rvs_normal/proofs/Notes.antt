@@ -2,11 +2,10 @@
 -- entries.
 use Rattle.std.proofs.Common.{◌≡◌, ℕ, ◌+◌, Bool, true, false, List, [], ◌∷◌, ◌++◌, length, refl, ap}
 use Rattle.std.proofs.Common.{subst, ◌∙◌, Ok, Err, arith, rules}
-use Rattle.std.proofs.lemmas.Bool.{and_from, or_parts, or_from, not_from_false}
+use Rattle.std.proofs.lemmas.Bool.{and_from, or_parts, or_from, not_from_false, and_parts}
 use Rattle.std.specs.Prelude.{not, nat_le, nat_lt, if◌then◌else◌, bytes_eq, codes}
 use Rattle.std.specs.List.{list_any, list_all}
 use Rattle.std.proofs.lemmas.List.Folds.{list_any-append, list_all-append}
-use Rattle.rvs_yaml.proofs.WholeLines.{both_true}
 use Rattle.rvs_insn.specs.Isa.{Isa}
 use Rattle.rvs_tree.specs.Data.{Data, Pairs, own_pairs}
 use Rattle.rvs_abstract.specs.declared.families.Families.{Families}
@@ -158,7 +157,7 @@ apart-push : (ls : List Label) (l : Label) (e : List ℕ × Data) (es : Pairs) �
     → names_are_apart ls ≡ true → Later ls (e ∷ es) → names_are_apart (ls ++ (l ∷ [])) ≡ true
 apart-push [] l e es is h k = refl
 apart-push (m ∷ ls) l e es is h k =
-    let p = both_true (not (list_any (λ n. bytes_eq m.name n.name) ls)) (names_are_apart ls) h in
+    let p = and_parts (not (list_any (λ n. bytes_eq m.name n.name) ls)) (names_are_apart ls) h in
     let q = or_parts (bytes_eq m.name e.0) (list_any (λ f. bytes_eq m.name f.0) es) k.0 in
     and_from (not (list_any (λ n. bytes_eq m.name n.name) (ls ++ (l ∷ []))))
     (names_are_apart (ls ++ (l ∷ [])))
@@ -207,7 +206,7 @@ each-well : (isa : Isa) (families : Families) (es : Pairs) (l : Listed) → keys
     → Has (Well []) (for_each (label_step isa families) es l)
 each-well isa families [] l own w = w
 each-well isa families (e ∷ es) l own w =
-    let p = both_true (not (list_any (λ f. bytes_eq f.0 e.0) es)) (keys_are_own es) own in
+    let p = and_parts (not (list_any (λ f. bytes_eq f.0 e.0) es)) (keys_are_own es) own in
     has-then (Well es) (Well []) (label_step isa families e.0 e.1 l) _
     (step-well isa families e es l (not-true (list_any (λ f. bytes_eq f.0 e.0) es) p.0) w)
     (λ m v. each-well isa families es m p.1 v)

@@ -2,13 +2,12 @@
 use Rattle.std.proofs.Common.{◌≡◌, ℕ, ◌+◌, ◌*◌, ◌≤◌, ◌<◌, Bool, true, false, List, [], ◌∷◌, ◌++◌}
 use Rattle.std.proofs.Common.{length, refl, sym, ap, subst, ◌∙◌, arith, append_assoc, append-nil}
 use Rattle.std.proofs.Common.{Option, Some, Ok, All, true≢false, bytes_eq, rules}
-use Rattle.std.proofs.lemmas.Bool.{and_from, or_parts, or_from, not_from_false}
+use Rattle.std.proofs.lemmas.Bool.{and_from, or_parts, or_from, not_from_false, and_parts}
 use Rattle.std.specs.Prelude.{not, codes, sum_by}
 use Rattle.std.specs.List.{list_all, list_any}
 use Rattle.std.proofs.lemmas.List.{length-append}
 use Rattle.std.proofs.lemmas.List.Sums.{sum_by-cons}
 use Rattle.std.proofs.lemmas.List.Elements.{All-head, All-tail}
-use Rattle.rvs_yaml.proofs.WholeLines.{both_true}
 use Rattle.rvs_insn.specs.Isa.{Isa}
 use Rattle.rvs_insn.specs.Names.{is_admitted_op}
 use Rattle.rvs_tree.specs.Data.{Data, Entries, no_entries, entry, pairs_of, own_pairs}
@@ -113,7 +112,7 @@ selected-apart : (ls : List Label) → names_are_apart ls ≡ true
     → names_are_apart (selected ls) ≡ true
 selected-apart [] h = refl
 selected-apart (l ∷ ls) h =
-    let p = both_true (not (list_any (λ m. bytes_eq l.name m.name) ls)) (names_are_apart ls) h in
+    let p = and_parts (not (list_any (λ m. bytes_eq l.name m.name) ls)) (names_are_apart ls) h in
     by-case l.selected refl
     (any-selected l ls (not-true (list_any (λ m. bytes_eq l.name m.name) ls) p.0))
     (selected-apart ls p.1)

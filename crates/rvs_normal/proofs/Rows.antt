@@ -4,12 +4,12 @@ use Rattle.std.proofs.Common.{Some, None, rules}
 use Rattle.std.specs.Prelude.{◌&&◌, ◌||◌, ◌==◌, nat_le}
 use Rattle.std.specs.List.{list_all}
 use Rattle.std.proofs.lemmas.Bool.Decides.{nat_tests}
-use Rattle.std.proofs.lemmas.Bool.{and_from}
-use Rattle.rvs_yaml.proofs.WholeLines.{both_true}
+use Rattle.std.proofs.lemmas.Bool.{and_from, and_parts}
+use Rattle.rvs_text.specs.Spaces.{without_end}
 use Rattle.rvs_yaml_text.specs.Bytes.{space_byte, single_quote_byte, hash_byte, dash_byte, dot_byte}
 use Rattle.rvs_yaml_text.specs.Bytes.{colon_byte}
 use Rattle.rvs_yaml_text.specs.Word.{nothing, text, key, Word}
-use Rattle.rvs_yaml_text.specs.Scalar.{onto, is_blank, key_split, trimmed, start_fault, key_name}
+use Rattle.rvs_yaml_text.specs.Scalar.{onto, is_blank, key_split, start_fault, key_name}
 use Rattle.rvs_yaml_text.specs.Scalar.{quoted_name, is_unsupported_start, is_reserved_start}
 use Rattle.rvs_yaml_text.specs.Scalar.{is_indicator_byte}
 use Rattle.rvs_yaml_text.specs.Printed.{in_quotes, doubled}
@@ -44,14 +44,14 @@ split-name : (spaced : Bool) (cs : List ℕ) → list_all is_next cs ≡ true
     → key_split spaced (cs ++ (colon_byte ∷ [])) ≡ Some (cs, [])
 split-name spaced [] h = refl
 split-name spaced (c ∷ cs) h =
-    let p = both_true (is_next c) (list_all is_next cs) h in
+    let p = and_parts (is_next c) (list_all is_next cs) h in
     let n = not-marks c p.0 in
     rw (n.hash, n.colon, key_split) (ap (onto c) (split-name (c == 32) cs p.1))
 
-pub trimmed-name : (cs : List ℕ) → list_all is_next cs ≡ true → trimmed cs ≡ cs
+pub trimmed-name : (cs : List ℕ) → list_all is_next cs ≡ true → without_end cs ≡ cs
 trimmed-name [] h = refl
-trimmed-name (c ∷ []) h = rw ((not-marks c (both_true (is_next c) true h).0).space) refl
-trimmed-name (c ∷ d ∷ cs) h = let p = both_true (is_next c) (list_all is_next (d ∷ cs)) h in
+trimmed-name (c ∷ []) h = rw ((not-marks c (and_parts (is_next c) true h).0).space) refl
+trimmed-name (c ∷ d ∷ cs) h = let p = and_parts (is_next c) (list_all is_next (d ∷ cs)) h in
     rw (trimmed-name (d ∷ cs) p.1) refl
 
 -- ---- a name with a colon behind it
@@ -145,16 +145,16 @@ next-ink c h = grind (arith, nat_tests)
 
 name-inked : (cs : List ℕ) → list_all is_next cs ≡ true → is_printable cs ≡ true
 name-inked [] h = refl
-name-inked (c ∷ cs) h = let p = both_true (is_next c) (list_all is_next cs) h in
+name-inked (c ∷ cs) h = let p = and_parts (is_next c) (list_all is_next cs) h in
     and_from (is_ink c) (is_printable cs) (next-ink c p.0) (name-inked cs p.1)
 
 pub plain-inked : (name : List ℕ) → is_plain name ≡ true → is_printable name ≡ true
-plain-inked name h = search (rules, both_true, and_from, is_ink, next-ink, first-next, name-inked)
+plain-inked name h = search (rules, and_parts, and_from, is_ink, next-ink, first-next, name-inked)
 
 doubled-inked : (k : List ℕ) → is_printable k ≡ true → is_printable (doubled k) ≡ true
 doubled-inked [] h = refl
 doubled-inked (c ∷ cs) h =
-    let p = both_true (is_ink c) (is_printable cs) h in
+    let p = and_parts (is_ink c) (is_printable cs) h in
     doubled-one c cs (c == single_quote_byte) refl p.0 (doubled-inked cs p.1)
   where
     doubled-one : (c : ℕ) (cs : List ℕ) (b : Bool) → (c == single_quote_byte) ≡ b → is_ink c ≡ true
@@ -169,9 +169,9 @@ row-inked r h = search (rules, inked-append, plain-inked, doubled-inked)
 words-of-row : (line : ℕ) (r : Row) → IsRow r
     → words_at line false 0 (row_text r) ≡ row_words line r
 words-of-row line (label_row []) h = cc
-words-of-row line (label_row (c ∷ cs)) h = grind (arith, both_true, name-word)
+words-of-row line (label_row (c ∷ cs)) h = grind (arith, and_parts, name-word)
 words-of-row line (node_row []) h = cc
-words-of-row line (node_row (c ∷ cs)) h = grind (arith, both_true, name-word)
+words-of-row line (node_row (c ∷ cs)) h = grind (arith, and_parts, name-word)
 words-of-row line (point_row k) h = quoted-word line k
 words-of-row line (note_row t) h = refl
 words-of-row line (inner_note_row t) h = refl

@@ -5,7 +5,7 @@ use Rattle.std.specs.Prelude.{◌&&◌, map, codes}
 use Rattle.std.specs.List.{list_all}
 use mathlib.Core.Bool.{cond}
 use Rattle.std.proofs.lemmas.Bool.Decides.{nat_tests}
-use Rattle.rvs_yaml.proofs.WholeLines.{both_true}
+use Rattle.std.proofs.lemmas.Bool.{and_parts}
 use Rattle.rvs_tree.specs.Data.{Data, own_pairs, is_map, is_scalar}
 use Rattle.rvs_tree.specs.Value.{Value, Written}
 use Rattle.rvs_yaml_text.specs.Scalar.{key_name}
@@ -86,7 +86,7 @@ points-good : (before : Option Kind) (ps : List Point)
     → list_all (λ p. is_printable p.key) ps ≡ true → AreRows (points_rows before ps)
 points-good before [] h = tt
 points-good before (p ∷ ps) h =
-    let q = both_true (is_printable p.key) (list_all (λ p. is_printable p.key) ps) h in
+    let q = and_parts (is_printable p.key) (list_all (λ p. is_printable p.key) ps) h in
     rows-append (head_rows before p.kind) (point_row p.key ∷ points_rows (Some p.kind) ps)
     (head-good before p.kind) (q.0, points-good (Some p.kind) ps q.1)
 
@@ -95,9 +95,9 @@ skipped-good : (ss : List Skipped)
     → AreRows (map skipped_row ss)
 skipped-good [] h = tt
 skipped-good (s ∷ ss) h =
-    let p = both_true (is_printable s.node && is_printable s.key)
+    let p = and_parts (is_printable s.node && is_printable s.key)
     (list_all (λ s. is_printable s.node && is_printable s.key) ss) h in
-    let q = both_true (is_printable s.node) (is_printable s.key) p.0 in (
+    let q = and_parts (is_printable s.node) (is_printable s.key) p.0 in (
       inked-append (codes " skipped ") (s.node ++ (codes " " ++ s.key)) refl
           (inked-append s.node (codes " " ++ s.key) q.0 q.1),
       skipped-good ss p.1,
@@ -109,7 +109,7 @@ label-good l h n = by-case l.selected refl
   where
     by-case : (s : Bool) → l.selected ≡ s → AreRows (label_rows l)
     by-case true e =
-        let p = both_true (is_printable l.name)
+        let p = and_parts (is_printable l.name)
         (list_all (λ s. is_printable s.node && is_printable s.key) l.skipped) n in
         rw (e, label_rows) (
           name-plain l.name (h e).named,
@@ -117,7 +117,7 @@ label-good l h n = by-case l.selected refl
               (points-good None l.points (h e).keys_printable) (skipped-good l.skipped p.1),
         )
     by-case false e =
-        let p = both_true (is_printable l.name)
+        let p = and_parts (is_printable l.name)
         (list_all (λ s. is_printable s.node && is_printable s.key) l.skipped) n in
         rw (e, label_rows) (inked-append (codes " unselected ") l.name refl p.0, tt)
 

@@ -1,7 +1,7 @@
 -- The plan of `normalize`, cut where the normal text is there.
 use Rattle.std.proofs.Common.{◌≡◌, ℕ, List, None, Result, Ok, Err, refl, sym, ◌∙◌}
 use Rattle.rvs_abstract.specs.declared.families.Families.{Families}
-use Rattle.rvs_fault.specs.Answers.{seen}
+use Rattle.rvs_base.specs.Answers.{seen}
 use Rattle.rvs_plan.specs.Plan.{Plan, Ends, gives, ◌>>=◌}
 use Rattle.rvs_plan.specs.declared.stop.Stop.{Stop}
 use Rattle.rvs_cgf.specs.Print.{normal_text}

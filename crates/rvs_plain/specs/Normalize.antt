@@ -1,7 +1,7 @@
 -- What `normalize` does.
 use Rattle.std.specs.Prelude.{ℕ, List, None}
 use Rattle.rvs_abstract.specs.declared.families.Families.{Families}
-use Rattle.rvs_fault.specs.Answers.{seen}
+use Rattle.rvs_base.specs.Answers.{seen}
 use Rattle.rvs_plan.specs.Plan.{Plan, Ends, ◌>>=◌}
 use Rattle.rvs_plan.specs.declared.status.Finish.{Finish}
 use Rattle.rvs_insn.specs.Isa.{Isa}

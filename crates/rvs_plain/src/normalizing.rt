@@ -1,7 +1,7 @@
 // The command `normalize`.
 ghost use Rattle.std.specs.Prelude.{Ok, Err};
 ghost use Rattle.rvs_base.specs.Sink.{SinkState};
-ghost use Rattle.rvs_fault.specs.Answers.{seen};
+ghost use Rattle.rvs_base.specs.Answers.{seen};
 ghost use Rattle.rvs_plan.specs.World.{World, world};
 ghost use Rattle.rvs_plan.specs.Plan.{Ends};
 ghost use Rattle.rvs_plan.specs.Meets.{Meets};

@@ -3,8 +3,7 @@ ghost use Rattle.std.specs.Prelude.{◌≡◌, ◌⊎◌, IfOk};
 ghost use Rattle.rvs_plan.specs.Refusing.{Stops, input_text};
 
 use crate::Stop;
-use rvs_base::{NoMemory, Text};
-use rvs_fault::{Fault, Refusal};
+use rvs_base::{Fault, NoMemory, Refusal, Text};
 use std::alloc::Global;
 
 /// Goes on with what comes of an input, which a fault line names so.

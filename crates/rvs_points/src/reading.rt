@@ -6,11 +6,10 @@ ghost use Rattle.rvs_points.specs.SaidView.{said_view};
 use crate::group::{Kind, Meaning};
 use crate::keys::is_skipped;
 use crate::refusal::CgfKind;
-use rvs_base::NoMemory;
+use rvs_base::{Fault, NoMemory};
 use rvs_cross::{CrossRead, parse_cross};
 use rvs_expr::{parse_num, parse_reg};
 use rvs_expr_text::register_number;
-use rvs_fault::Fault;
 use rvs_insn::op_of;
 use std::alloc::Global;
 

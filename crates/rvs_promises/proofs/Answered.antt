@@ -54,8 +54,8 @@ works-end {files = files} {found = found} w answers =
     ∙ followed-end files answers found w.deeds w.ends w.does
 
 -- what deeds of accepted inputs leave, where the command did all of them
-works-left : {A : Type 0} {plan : Plan Finish} {files : Files} (given : A) (end : Result Finish Stop)
-    (old new : Contents) → (w : Works plan files (Ok given)) → old.files ≡ Some files → Completes
+works-left : {A : Type 0} {plan : Plan Finish} {files : Files} (given : A)
+    (end : Result Finish Stop) (old new : Contents) → (w : Works plan files (Ok given)) → old.files ≡ Some files → Completes
     plan end old new → new ≡ left (w.deeds given) old
 works-left {A} {plan} {files} given end old new w told r = grind (arith, behind, left-after)
 

@@ -200,7 +200,8 @@ there {call} files asked r inputs l text files' given inside selected is done to
 
 -- that of a label with a solvable point has the property
 proved-there : {call : Call} (files : Files) (asked : GenerateArguments)
-    → RunsOn call files IsFault (generate asked) → (inputs : Inputs) (l : Label) (k : ℕ) (files' : Files)
+    → RunsOn call files IsFault (generate asked)
+    → (inputs : Inputs) (l : Label) (k : ℕ) (files' : Files)
     → labels_in files asked.part asked.isa asked.families asked.groups ≡ Ok inputs
     → Contains inputs.groups l → IsTrue l.selected → IsSolvableAt inputs.isa l k
     → call.status ≡ answer.Done → call.new.host.files ≡ Some files'

@@ -2,13 +2,12 @@
 use Rattle.std.proofs.Common.{◌≡◌, ◌*◌, inl, inr, ℕ, zero, suc, true, false, true≢false, List, []}
 use Rattle.std.proofs.Common.{◌∷◌, ◌++◌, map, Contains, Option, Some, cond, is_some, option_to_list}
 use Rattle.std.proofs.Common.{None, IsTrue, bytes_eq, slice_get, refl, sym, ap, subst, ◌∙◌, arith}
-use Rattle.std.proofs.lemmas.Bool.{and_from, or_parts}
+use Rattle.std.proofs.lemmas.Bool.{and_from, or_parts, and_parts}
 use Rattle.std.specs.Prelude.{not}
 use Rattle.std.proofs.lemmas.List.{length-map}
 use Rattle.std.proofs.lemmas.List.Elements.{All-map, All-weaker, All-contains, All-contains_itself}
 use Rattle.std.proofs.lemmas.Option.{slice_get_within}
 use Rattle.std.proofs.lemmas.Slice.Eq.{bytes_eq-Decides}
-use Rattle.rvs_yaml.proofs.WholeLines.{both_true}
 use Rattle.rvs_insn.specs.Isa.{Isa}
 use Rattle.rvs_machine.specs.Image.{ImageValue}
 use Rattle.rvs_machine.specs.Run.{Outcome}
@@ -57,10 +56,10 @@ unique : (ps : List Point) (i k : ℕ) (p q : Point) → slice_get ps i ≡ Some
     → q.key ≡ p.key → k ≡ i
 unique [] i k p q here there own kind key = absurd cc
 unique (x ∷ xs) zero zero p q here there own kind key = refl
-unique (x ∷ xs) zero (suc k) p q here there own kind key = grind (arith, both_true, clash, not-true)
-unique (x ∷ xs) (suc i) zero p q here there own kind key = grind (arith, both_true, clash, not-true)
+unique (x ∷ xs) zero (suc k) p q here there own kind key = grind (arith, and_parts, clash, not-true)
+unique (x ∷ xs) (suc i) zero p q here there own kind key = grind (arith, and_parts, clash, not-true)
 unique (x ∷ xs) (suc i) (suc k) p q here there own kind key =
-    let o = both_true (not (has x.kind x.key xs)) (are_distinct xs) own in
+    let o = and_parts (not (has x.kind x.key xs)) (are_distinct xs) own in
     ap (λ (n : ℕ). suc n) (unique xs i k p q here there o.1 kind key)
 
 -- ---- claims and their names

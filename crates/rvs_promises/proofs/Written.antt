@@ -2,7 +2,7 @@
 use Rattle.std.proofs.Common.{◌≡◌, ◌≢◌, ℕ, Bool, true, false, true≢false, if◌then◌else◌, List, []}
 use Rattle.std.proofs.Common.{◌∷◌, All, Contains, Option, Some, None, is_some, Result, Ok, Err}
 use Rattle.std.proofs.Common.{IfOk, codes, bytes_eq, refl, sym, ap, subst, ◌∙◌, arith, rules}
-use Rattle.std.proofs.lemmas.Bool.{or_parts}
+use Rattle.std.proofs.lemmas.Bool.{or_parts, and_parts}
 use Rattle.std.specs.Prelude.{not}
 use Rattle.std.specs.List.{list_any}
 use Rattle.std.proofs.lemmas.List.Elements.{All-nil, All-cons, All-contains}
@@ -30,7 +30,6 @@ use Rattle.rvs_inputs.specs.GroupFiles.{parted_inputs}
 use Rattle.rvs_generate.specs.TestedInputs.{labels_in}
 use Rattle.rvs_parts.specs.Parts.{PartValue, is_in, parted_from}
 use Rattle.std.specs.Prelude.{◌+◌, ◌&&◌, ◌||◌}
-use Rattle.rvs_yaml.proofs.WholeLines.{both_true}
 use Rattle.rvs_generate.specs.Generate.{path_of}
 use Rattle.rvs_promises.specs.Generating.{with_text, with_test, with_tests}
 use Rattle.rvs_generate.proofs.Paths.{same-ending}
@@ -163,7 +162,7 @@ all-there : (work : List ℕ) (isa : Isa) (ls : List Label) (files : Option File
 all-there work isa [] files told apart = All-nil (Stands work isa files)
 all-there work isa (l ∷ ls) files told apart =
     let later = list_any (λ (m : Label). bytes_eq l.name m.name) ls in
-    let p = both_true (not later) (names_are_apart ls) apart in
+    let p = and_parts (not later) (names_are_apart ls) apart in
     let after = with_test work isa l files in
     All-cons (Stands work isa (with_tests work isa ls after)) l ls
     (λ selected text is. kept-tests work l.name isa ls after (not-true later p.0)

@@ -1,16 +1,16 @@
 // The command `propagate`.
-ghost use Rattle.std.specs.Prelude.{◌≡◌, ℕ, IfOk, length, map};
+ghost use Rattle.std.specs.Prelude.{◌≡◌, IfOk, length, map};
 ghost use Rattle.rvs_base.specs.Sink.{SinkState};
 ghost use Rattle.rvs_plan.specs.World.{world};
 ghost use Rattle.rvs_plan.specs.Meets.{Meets};
 ghost use Rattle.rvs_index.specs.Counting.{aims_in};
 ghost use Rattle.rvs_inputs.specs.GroupsView.{groups_view};
-ghost use Rattle.rvs_propagate.specs.Propagate.{untracked, report_on, measure, reported, AreLong};
-ghost use Rattle.rvs_propagate.specs.Propagate.{file_name, tracks_more, propagate, with_trail};
+ghost use Rattle.rvs_propagate.specs.Propagate.{untracked, report_on, measure, AreLong};
+ghost use Rattle.rvs_propagate.specs.Propagate.{file_name, propagate};
 ghost use Rattle.rvs_coverage.specs.Telling.{HasToldOf, as_planned, lines_of_logs};
-ghost use Rattle.rvs_coverage.specs.LogReport.{takes_logs, reads_logs};
+ghost use Rattle.rvs_coverage.specs.LogReport.{reads_logs};
 
-use rvs_base::{Host, Items, NoMemory, Sink, Text, Window, release};
+use rvs_base::{Host, Items, NoMemory, Sink, Text, Window, beside, release};
 use rvs_cgf::Groups;
 use rvs_count::zeros;
 use rvs_coverage::{
@@ -55,29 +55,14 @@ pub fn propagate_log<H: Host, O: Sink, E: Sink>(
     ensures told { HasToldOf asked.now.progress (lines_of_logs file_name asked.now.logs)
         (H.state host.old) (E.state err.old) (E.state err.new) result }
 {
-    let report = read_report(alloc, host, err, asked)?;
+    let inputs = read_inputs(alloc, host, &asked.isa, asked.families, &asked.groups)?;
+    let outcome = report_logs(alloc, host, err, &inputs.groups, asked);
+    release_inputs(inputs);
+    let report = outcome?;
     unlost(print_text(&report, out))
 }
 
-/// Reads all files, and makes the report.
-fn read_report<H: Host, E: Sink>(
-    alloc: Global,
-    host: &mut H,
-    err: &mut E,
-    asked: &PropagateArguments,
-) -> Result<Text, Unfinished>
-    ensures met { (out : SinkState) → Meets (reported asked.now)
-        (world (H.state host.old) out) (world (H.state host.new) out) (as_planned result) }
-    ensures told { HasToldOf asked.now.progress (lines_of_logs file_name asked.now.logs)
-        (H.state host.old) (E.state err.old) (E.state err.new) result }
-{
-    let inputs = read_inputs(alloc, host, &asked.isa, asked.families, &asked.groups)?;
-    let report = report_logs(alloc, host, err, &inputs.groups, asked);
-    release_inputs(inputs);
-    report
-}
-
-/// Tracks hits in all logs, and makes the report.
+/// Tracks hits in all logs, one after the other, with one tracker, and makes the report.
 fn report_logs<H: Host, E: Sink>(
     alloc: Global,
     host: &mut H,
@@ -91,8 +76,17 @@ fn report_logs<H: Host, E: Sink>(
     ensures told { HasToldOf asked.now.progress (lines_of_logs file_name asked.now.logs)
         (H.state host.old) (E.state err.old) (E.state err.new) result }
 {
-    let tracked = track_all(alloc, host, err, groups, asked)?;
-    Ok(report_of(alloc, groups, asked.logs.as_slice(), &tracked)?)
+    let logs = asked.logs.as_slice();
+    let none = nothing(alloc, groups, logs.len())?;
+    let tracker = new_tracker(alloc, groups, Window { lo: 0, hi: 0 });
+    let (tracker, none) = beside(tracker, none)?;
+    let mut tracking = Tracking { tracker };
+    let outcome = take_onto(alloc, host, err, asked.progress, &mut tracking, none, logs);
+    release(tracking);
+    let tracked = outcome?;
+    let report = report_of(alloc, groups, logs, &tracked);
+    release(tracked);
+    Ok(report?)
 }
 
 #[tactic(auto, unfolding(crate::specs::Propagate::report_on))]
@@ -140,47 +134,6 @@ fn nothing(alloc: Global, groups: &Groups, logs: usize) -> Result<Traced, NoMemo
     })
 }
 
-/// Tracks hits in all logs, one after the other, with one tracker.
-fn track_all<H: Host, E: Sink>(
-    alloc: Global,
-    host: &mut H,
-    err: &mut E,
-    groups: &Groups,
-    asked: &PropagateArguments,
-) -> Result<Traced, Unfinished>
-    ensures met { (out : SinkState) → Meets
-        (takes_logs file_name (tracks_more (groups_view groups.now))
-        (untracked (groups_view groups.now)) asked.now.logs)
-        (world (H.state host.old) out) (world (H.state host.new) out) (as_planned result) }
-    ensures long { IfOk result (AreLong (length (aims_in groups.now))) }
-    ensures told { HasToldOf asked.now.progress (lines_of_logs file_name asked.now.logs)
-        (H.state host.old) (E.state err.old) (E.state err.new) result }
-{
-    let logs = asked.logs.as_slice();
-    let none = nothing(alloc, groups, logs.len())?;
-    let tracker = new_tracker(alloc, groups, Window { lo: 0, hi: 0 })?;
-    let mut tracking = Tracking { tracker };
-    let traced = take_onto(alloc, host, err, asked.progress, &mut tracking, none, logs);
-    release(tracking);
-    traced
-}
-
-/// With what was tracked in a log more.
-fn with_trail(tracked: Traced, trail: &Trail<'_>) -> Result<Traced, NoMemory>
-    ensures tracked { IfOk result (λ t. t ≡ with_trail tracked trail.now) }
-    ensures long { (n : ℕ) → AreLong n tracked → IfOk result (AreLong n) }
-{
-    let Traced {
-        reached: before,
-        hits: behind,
-        ran: earlier,
-    } = tracked;
-    let reached = plus_each(before, trail.reached());
-    let hits = plus_each(behind, trail.hits());
-    let ran = with_number(earlier, trail.instructions())?;
-    Ok(Traced { reached, hits, ran })
-}
-
 /// A tracker that takes one log after the other.
 #[derive(Drop)]
 struct Tracking<'g> {
@@ -212,6 +165,17 @@ impl<'g> LogTaker for Tracking<'g> {
         self.tracker.restart(log.signature);
         let name = log.name.as_str();
         take_log::<H, E, Trail<'g>, Traced>(alloc, host, err, progress, &mut self.tracker, name)?;
-        Ok(with_trail(known, self.tracker.told())?)
+        let trail = self.tracker.told();
+        let reached = plus_each(known.reached, trail.reached());
+        let hits = plus_each(known.hits, trail.hits());
+        let (ran, counts) = beside(
+            with_number(known.ran, trail.instructions()),
+            (reached, hits),
+        )?;
+        Ok(Traced {
+            reached: counts.0,
+            hits: counts.1,
+            ran,
+        })
     }
 }

@@ -1,9 +1,9 @@
 -- What comes of a value or a refusal that was found.
 use Rattle.std.proofs.Common.{◌≡◌, ℕ, true, false, List, Result, Ok, Err, refl, sym, subst, inl}
 use Rattle.std.proofs.Common.{inr}
-use Rattle.rvs_fault.specs.Answers.{Answers}
-use Rattle.rvs_fault.specs.declared.faults.Fault.{Fault}
-use Rattle.rvs_fault.specs.declared.faults.Fault.TheVariants as fault
+use Rattle.rvs_base.specs.Answers.{Answers}
+use Rattle.rvs_base.specs.declared.fault.Fault.{Fault}
+use Rattle.rvs_base.specs.declared.fault.Fault.TheVariants as fault
 use Rattle.rvs_plan.specs.World.{World}
 use Rattle.rvs_plan.specs.Meets.{Meets}
 use Rattle.rvs_plan.specs.Refusing.{Stops}

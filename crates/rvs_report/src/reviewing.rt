@@ -10,9 +10,8 @@ ghost use Rattle.rvs_generate.specs.Tests.{IsRunnable};
 ghost use Rattle.rvs_report.specs.Findings.{likeness, asks_like, if_like, found_open, compared};
 ghost use Rattle.rvs_report.specs.Findings.{judged_left, finds_signature, finds_words, finds_test};
 
-use rvs_base::{FileRefusal, Host, Items, NoMemory, Text, read_file, release};
+use rvs_base::{Fault, FileRefusal, Host, Items, NoMemory, Text, read_file, release};
 use rvs_device::SIGNATURE_LIMIT;
-use rvs_fault::Fault;
 use rvs_generate::{Test, TestFiles, reference_of};
 use rvs_insn::IsaSpec;
 use rvs_page::State;

@@ -16,7 +16,7 @@ ghost use Rattle.rvs_run.specs.RunTests.{if_asked, made_for, made_found, makes, 
 ghost use Rattle.rvs_run.specs.RunTests.{writes_executable, judges_by, judges_words, judges_made};
 ghost use Rattle.rvs_run.specs.RunTests.{passes, announces, announces_made, judges_one};
 ghost use Rattle.rvs_run.specs.RunView.{bench_view, made_with};
-ghost use Rattle.rvs_fault.specs.Answers.{seen};
+ghost use Rattle.rvs_base.specs.Answers.{seen};
 ghost use Rattle.rvs_generate.specs.declared.sources.Source.TheVariants.{Read};
 
 use rvs_base::{Bytes, Host, Items, NoMemory, Sink, Text, beside, release};

@@ -1,8 +1,8 @@
 -- A worked database: which of two tests is selected, that have the same two checks.
 use Rattle.std.specs.Prelude.{◌≡◌, ℕ, true, false, List, [], ◌∷◌, map, Some, Result, Ok, IsTrue}
 use Rattle.std.specs.Prelude.{codes}
-use Rattle.rvs_fault.specs.Answers.{Answers}
-use Rattle.rvs_fault.specs.declared.faults.Fault.{Fault}
+use Rattle.rvs_base.specs.Answers.{Answers}
+use Rattle.rvs_base.specs.declared.fault.Fault.{Fault}
 use Rattle.rvs_insn.specs.Isa.{Isa}
 use Rattle.rvs_insn.specs.IsaName.{isa_name}
 use Rattle.rvs_tree.specs.Data.{Data, Pairs, scalar, sequence, mapping, no_entries, entry, items_of}

@@ -2,8 +2,7 @@
 ghost use Rattle.rvs_sig.specs.Printed.{refusal_text};
 
 use crate::SigRefusal;
-use rvs_base::{NoMemory, Text};
-use rvs_fault::Refusal;
+use rvs_base::{NoMemory, Refusal, Text};
 use std::alloc::Global;
 
 impl Refusal for SigRefusal {

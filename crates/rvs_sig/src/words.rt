@@ -1,13 +1,12 @@
 // The words of a signature file.
 ghost use Rattle.std.specs.Prelude.{◌≡◌, ◌≤◌, ◌<◌, [], IfOk, MatchOption, length};
-ghost use Rattle.rvs_fault.specs.Answers.{Answers};
+ghost use Rattle.rvs_base.specs.Answers.{Answers};
 ghost use Rattle.rvs_sig.specs.Digits.{AreWorths};
 ghost use Rattle.rvs_sig.specs.Words.{HasLine, digits_of_line, text_of_words, word_of_line};
 ghost use Rattle.rvs_sig.specs.Words.{most_lines, words_of};
 
 use crate::digits::{digits_line, word_digits, worths};
-use rvs_base::{Items, NoMemory, Text, first_line};
-use rvs_fault::Fault;
+use rvs_base::{Fault, Items, NoMemory, Text, first_line};
 use std::alloc::Global;
 
 const MOST_LINES: u32 = 262_144;

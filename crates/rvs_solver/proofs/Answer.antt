@@ -1,7 +1,7 @@
 -- No answer says that nothing hits, and an answer that nothing before it does.
 use Rattle.std.proofs.Common.{◌≡◌, ℕ, ◌<◌, Bool, true, false, cond, List, [], ◌∷◌, length, get_or}
-use Rattle.std.proofs.Common.{Option, Some, None, refl, sym, ap, ◌∙◌, arith, zero, suc, rules}
-use Rattle.std.specs.Prelude.{find, slice_get, IfOk, IfNone, Result}
+use Rattle.std.proofs.Common.{Option, Some, None, refl, sym, ap, ◌∙◌, arith, zero, suc}
+use Rattle.std.specs.Prelude.{find, slice_get}
 use Rattle.rvs_insn.specs.declared.op.Op.{Op}
 use Rattle.rvs_insn.specs.Isa.{Isa}
 use Rattle.rvs_points.specs.declared.group.Kind.{Kind}
@@ -27,11 +27,6 @@ nothing_hits spec ops kind meaning none (c, (k, l, at), hit) =
     ap (hits kind meaning) (sym at)
     ∙ none_at (hits kind meaning) (all_choices spec ops (constants_of meaning)) none k c l in
     cc
-
-pub none_clause : {E : Type 0} → (spec : Isa) (ops : List Op) (kind : Kind) (meaning : Meaning)
-    (r : Result (Option ChoiceValue) E) → IfOk r (λ c. c ≡ first_choice spec ops kind meaning)
-    → IfOk r (λ c. IfNone c (Solvable spec ops kind meaning → ⊥))
-none_clause spec ops kind meaning r h = search (rules, nothing_hits)
 
 later : {X : Type 0} (p : X → Bool) (y : X) (ys : List X) (n : ℕ) → p y ≡ false
     → ((k : ℕ) (z : X) → k < n → slice_get ys k ≡ Some z → p z ≡ false) → (k : ℕ) (z : X)

@@ -1,11 +1,15 @@
 -- What solves a point, by what it means.
-use Rattle.std.proofs.Common.{◌≡◌, ℕ, ◌+◌, ◌≤◌, List, Option, Some, arith}
+use Rattle.std.proofs.Common.{◌≡◌, ℕ, ◌+◌, ◌≤◌, List, Option, Some, refl, arith}
 use Rattle.std.specs.Prelude.{option_map, IfSome, IfNone, Result, IfOk}
 use Rattle.rvs_base.specs.declared.memory_refusal.NoMemory.{NoMemory}
 use Rattle.rvs_insn.specs.declared.op.Op.{Op}
 use Rattle.rvs_insn.specs.Isa.{Isa}
 use Rattle.rvs_points.specs.Points.{Meaning, Point}
+use Rattle.rvs_points.specs.PointView.{meaning_view}
 use Rattle.rvs_points.specs.declared.group.Kind.{Kind}
+use Rattle.rvs_points.specs.declared.group.Meaning as declared
+use Rattle.rvs_points.specs.declared.group.Meaning.TheVariants.{Window}
+use Rattle.rvs_cross.specs.declared.cross.Cross.{Cross}
 use Rattle.rvs_choice.specs.declared.solved.Solved.{Solved}
 use Rattle.rvs_choice.specs.declared.solved.Solved.TheVariants.{One}
 use Rattle.rvs_solver.specs.Choices.{ChoiceValue}
@@ -14,6 +18,11 @@ use Rattle.rvs_solver.specs.Bound.{bound}
 use Rattle.rvs_solver.specs.Solving.{IsSingle, first_meant, IsLeastChoice, SolvesAs, IsSolvableAs}
 use Rattle.rvs_solver.specs.Solving.{bound_meant}
 use Rattle.rvs_solver.proofs.Answer.{is_least}
+
+pub single_meaning : (m : declared.Meaning) → ((ps : Cross) → m ≡ Window ps → ⊥)
+    → IsSingle (meaning_view m)
+single_meaning (Window ps) h = absurd (h ps refl)
+single_meaning _ h = tt
 
 pub first_single : (spec : Isa) (ops : List Op) (k : Kind) (m : Meaning) → IsSingle m
     → option_map One (first_choice spec ops k m) ≡ first_meant spec ops k m

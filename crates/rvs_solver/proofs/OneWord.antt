@@ -1,7 +1,7 @@
 -- What is found was kept, and hits.
 use Rattle.std.proofs.Common.{◌≡◌, Bool, true, not, ◌&&◌, ◌||◌, cond, List, [], ◌∷◌, Option}
-use Rattle.std.proofs.Common.{Some, refl, arith, rules}
-use Rattle.std.specs.Prelude.{ℤ, find, filter, flat_map, IfOk, IfSome, Result}
+use Rattle.std.proofs.Common.{Some, refl, arith}
+use Rattle.std.specs.Prelude.{ℤ, find, filter, flat_map}
 use Rattle.std.proofs.lemmas.Bool.{eqb-true, eq-eqb}
 use Rattle.rvs_insn.specs.declared.op.Op.{Op}
 use Rattle.rvs_insn.specs.Isa.{Isa}
@@ -67,9 +67,3 @@ asked z t h e = grind arith
 
 pub one_word_each : (c : ChoiceValue) → is_kept c ≡ true → HasOneWordEach c
 one_word_each c h = grind (arith, three, not, eqb-true, asked, Some, eq-eqb)
-
-pub words_clause : {E : Type 0}
-    → (spec : Isa) (ops : List Op) (kind : Kind) (meaning : Meaning)
-    (r : Result (Option ChoiceValue) E) → IfOk r (λ c. c ≡ first_choice spec ops kind meaning)
-    → IfOk r (λ c. IfSome c HasOneWordEach)
-words_clause spec ops kind meaning r h = search (rules, one_word_each, first_is_kept)

@@ -4,13 +4,12 @@ ghost use Rattle.std.specs.Prelude.{IfOk, IfNone, IfSome, find, flat_map, sum_by
 ghost use Rattle.rvs_cross.specs.CrossView.{cross_view};
 ghost use Rattle.rvs_sequences.specs.Sequences.{first_sequence};
 ghost use Rattle.rvs_sequences.specs.Sequences as sequences;
-ghost use Rattle.rvs_points.specs.Points.{window};
 ghost use Rattle.rvs_points.specs.PointView.{meaning_view, point_view, label_view};
 ghost use Rattle.rvs_points.specs.Valid.{IsValid};
 ghost use Rattle.rvs_solver.specs.Choices.{choices};
 ghost use Rattle.rvs_solver.specs.Point.{hits, is_valid, is_on_values, constants_of};
-ghost use Rattle.rvs_solver.specs.First.{first_choice, Solvable, HasOneWordEach};
-ghost use Rattle.rvs_solver.specs.Solving.{first_at, first_meant, bound_at, bound_meant, IsSingle};
+ghost use Rattle.rvs_solver.specs.First.{first_choice, Solvable};
+ghost use Rattle.rvs_solver.specs.Solving.{first_at, first_meant, bound_at, bound_meant};
 ghost use Rattle.rvs_solver.specs.Solving.{IsLeastAt, IsLeastChoice, IsWindow, SolvesAs};
 ghost use Rattle.rvs_solver.specs.Solving.{IsSolvableAs, IsSolvableAt, HaveOneWordEach};
 ghost use Rattle.rvs_solver.specs.Bound.{bound_of, bound};
@@ -77,20 +76,9 @@ fn solve_meant<L: Ledger>(
     ensures cost { steps.new ≤ steps.old + bound_meant spec.now ops.now
         (meaning_view point.now.meaning) }
 {
-    match window_of(&point.meaning) {
-        Some(cross) => solve_window(alloc, cross, spec, steps),
-        None => solve_choice(alloc, ops, point, spec, steps),
-    }
-}
-
-/// The cross point that a point means, where it means one.
-fn window_of(meaning: &Meaning) -> Option<&Cross>
-    ensures some { IfSome result (λ c. meaning_view meaning.now ≡ window (cross_view c.now)) }
-    ensures none { IfNone result (IsSingle (meaning_view meaning.now)) }
-{
-    match meaning {
-        Meaning::Window(cross) => Some(cross),
-        Meaning::OpIs(_) | Meaning::RegIs(_) | Meaning::Regs(_) | Meaning::Nums(_) => None,
+    match &point.meaning {
+        Meaning::Window(cross) => solve_window(alloc, cross, spec, steps),
+        _ => solve_choice(alloc, ops, point, spec, steps),
     }
 }
 
@@ -117,6 +105,7 @@ fn solve_window<L: Ledger>(
 }
 
 /// The first choice that hits a point that one instruction hits.
+#[tactic(auto, unfolding(crate::specs::Bound::bound))]
 fn solve_choice<L: Ledger>(
     alloc: Global,
     ops: &[Op],
@@ -135,32 +124,13 @@ fn solve_choice<L: Ledger>(
     ensures cost { steps.new ≤ steps.old + bound spec.now ops.now (meaning_view
         point.now.meaning) }
 {
-    match solve_point(alloc, ops, point, spec, steps)? {
+    match first_of_ops(alloc, ops, point.kind, &point.meaning, spec, steps)? {
         Some(choice) => Ok(Some(Solved::One(choice))),
         None => Ok(None),
     }
 }
 
 /// The first choice over some mnemonics that hits a point.
-pub(crate) fn solve_point<L: Ledger>(
-    alloc: Global,
-    ops: &[Op],
-    point: &Point,
-    spec: &IsaSpec,
-    steps: &mut Steps<L>,
-) -> Result<Option<Choice>, NoMemory>
-    requires { is_valid (meaning_view point.now.meaning) ≡ true }
-    ensures first { IfOk result (λ c. c ≡ first_choice spec.now ops.now point.now.kind (meaning_view
-        point.now.meaning)) }
-    ensures none { IfOk result (λ c. IfNone c (Solvable spec.now ops.now point.now.kind
-        (meaning_view point.now.meaning) → ⊥)) }
-    ensures words { IfOk result (λ c. IfSome c HasOneWordEach) }
-    ensures cost { steps.new ≤ steps.old + bound spec.now ops.now (meaning_view
-        point.now.meaning) }
-{
-    first_of_ops(alloc, ops, point.kind, &point.meaning, spec, steps)
-}
-
 fn first_of_ops<L: Ledger>(
     alloc: Global,
     ops: &[Op],

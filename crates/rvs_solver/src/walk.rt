@@ -1,6 +1,6 @@
 // The search for a value point: first operands outside, passed over by their part of the
 // expression, and words inside.
-ghost use Rattle.std.specs.Prelude.{◌≡◌, ◌+◌, ◌*◌, ◌≤◌, ◌∷◌, [], flat_map, length, find, sum_by};
+ghost use Rattle.std.specs.Prelude.{◌≡◌, ◌+◌, ◌*◌, ◌≤◌, ◌∷◌, [], length, find, sum_by};
 ghost use Rattle.std.specs.Prelude.{All, None};
 ghost use Rattle.std.specs.Option.{option_or};
 ghost use Rattle.rvs_solver.specs.Walk.{search_view, is_true_at, with_numbers, at_w1, word_or};
@@ -73,7 +73,10 @@ impl<'e> Search<'e> {
         }
         match self.first_at(operand, steps) {
             Some(choice) => (Some(choice), kept),
-            None => (None, self.kept_or_address(operand, kept, steps)),
+            None => match kept {
+                Some(choice) => (None, Some(choice)),
+                None => (None, self.own_address(operand, steps)),
+            },
         }
     }
 
@@ -89,24 +92,6 @@ impl<'e> Search<'e> {
                 is_true(part, &with_numbers(&self.base, operand, word, 0), steps)
             },
             None => true,
-        }
-    }
-
-    /// What was kept, or else the choice that stores its own address.
-    #[inline(always)]
-    fn kept_or_address<L: Ledger>(
-        &self,
-        operand: &Operand,
-        kept: Option<Choice>,
-        steps: &mut Steps<L>,
-    ) -> Option<Choice>
-        ensures value { result ≡ option_or kept (own_at (search_view self.now) operand.now) }
-        ensures cost { steps.new ≤ steps.old
-            + length (own_addresses self.now.same (operand.now ∷ [])) }
-    {
-        match kept {
-            Some(choice) => Some(choice),
-            None => self.own_address(operand, steps),
         }
     }
 
@@ -131,23 +116,17 @@ impl<'e> Search<'e> {
         }
     }
 
+    /// The first choice with this first operand and words of its own that makes the expression
+    /// true.
     fn first_at<L: Ledger>(&self, operand: &Operand, steps: &mut Steps<L>) -> Option<Choice>
         ensures first { result ≡ found_at (search_view self.now) operand.now }
         ensures cost { steps.new ≤ steps.old
             + length (word_or operand.now.word self.now.w1s.items) * length self.now.w2s.items }
     {
         match operand.word {
-            Some(word) => self.first_with_w1(operand, word, steps),
-            None => self.first_over_w1s(operand, steps),
+            Some(word) => return self.first_with_w1(operand, word, steps),
+            None => {},
         }
-    }
-
-    fn first_over_w1s<L: Ledger>(&self, operand: &Operand, steps: &mut Steps<L>) -> Option<Choice>
-        ensures first { result ≡ find (is_true_at (search_view self.now).formula)
-            (flat_map (at_w1 (search_view self.now) operand.now) self.now.w1s.items) }
-        ensures cost { steps.new ≤ steps.old
-            + length self.now.w1s.items * length self.now.w2s.items }
-    {
         for w1 in self.w1s.as_slice() {
             match self.first_with_w1(operand, *w1, steps) {
                 Some(choice) => return Some(choice),

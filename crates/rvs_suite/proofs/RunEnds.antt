@@ -153,7 +153,8 @@ done-only : (status : Status)
     → (status ≡ answer.NotPassed → ⊥) → (status ≡ answer.Done) ⊎ (status ≡ answer.NoMemory)
 done-only status h never = grind arith
 
-judged-done : {call : Call} (files : Files) (asked : RunArguments) → RunsOn call files IsAnswer (run asked)
+judged-done : {call : Call} (files : Files) (asked : RunArguments)
+    → RunsOn call files IsAnswer (run asked)
     → call.status ≡ answer.Done
     → WasJudged call files asked finish.Done
 judged-done {call} files asked r is =
@@ -169,7 +170,8 @@ judged-not_passed {call} files asked r is =
     (at_status r.ran files answer.NotPassed r.told is).completes
 
 -- and the files of each are there
-there : {call : Call} (files : Files) (asked : RunArguments) → RunsOn call files IsAnswer (run asked)
+there : {call : Call} (files : Files) (asked : RunArguments)
+    → RunsOn call files IsAnswer (run asked)
     → (inputs : RunInputs) (test : Test) (files' : Files)
     → run_inputs_in files asked ≡ Ok inputs → Contains (tests_in inputs) test
     → (call.status ≡ answer.Done) ⊎ (call.status ≡ answer.NotPassed)
@@ -208,7 +210,8 @@ once {call} files asked r inputs before after given ended old new =
         (given-left {call = call} files asked inputs end given was) old new
 
 -- that of a label with a solvable point has the property
-proved-there : {call : Call} (files : Files) (asked : RunArguments) → RunsOn call files IsAnswer (run asked)
+proved-there : {call : Call} (files : Files) (asked : RunArguments)
+    → RunsOn call files IsAnswer (run asked)
     → (inputs : RunInputs) (l : Label) (k : ℕ) (files' : Files)
     → run_inputs_in files asked ≡ Ok inputs → Contains inputs.groups.groups l
     → IsTrue l.selected → IsSolvableAt inputs.groups.isa l k
@@ -277,7 +280,8 @@ answers-run {call} files asked r =
     }
 
 -- where there is no room for a test, it is refused
-rooms : {call : Call} (files : Files) (asked : RunArguments) → RunsOn call files IsAnswer (run asked)
+rooms : {call : Call} (files : Files) (asked : RunArguments)
+    → RunsOn call files IsAnswer (run asked)
     → (inputs : Inputs) → inputs_in files asked.isa asked.families asked.groups ≡ Ok inputs
     → AsksForRoom call files inputs
 rooms {call} files asked r inputs given =
@@ -298,7 +302,8 @@ rooms {call} files asked r inputs given =
     sym refused ∙ accepted in absurd cc))
 
 -- where it is done, each test passes, and each label with a solvable point has one
-signed : {call : Call} (files : Files) (asked : RunArguments) → RunsOn call files IsAnswer (run asked)
+signed : {call : Call} (files : Files) (asked : RunArguments)
+    → RunsOn call files IsAnswer (run asked)
     → call.status ≡ answer.Done → HasLeft (run_inputs_in files asked)
     (λ inputs. IsSigned call (bench_of asked.program asked.work inputs) inputs.groups.groups
     (tests_in inputs))

@@ -3,13 +3,12 @@
 use Rattle.std.proofs.Common.{◌≡◌, ◌≢◌, inl, inr, ℕ, zero, suc, Bool, true, false, List, [], ◌∷◌}
 use Rattle.std.proofs.Common.{◌++◌, Contains, IsTrue, Option, Some, None, option_map, if◌then◌else◌}
 use Rattle.std.proofs.Common.{bytes_eq, refl, sym, ap, subst, ◌∙◌, arith}
-use Rattle.std.proofs.lemmas.Bool.{or_parts}
+use Rattle.std.proofs.lemmas.Bool.{or_parts, and_parts}
 use Rattle.std.specs.Prelude.{not, ⊤}
 use Rattle.std.specs.List.{list_any}
 use Rattle.std.proofs.lemmas.List.Elements.{Contains-append_left, Contains-append_right}
 use Rattle.std.proofs.lemmas.List.Elements.{Contains-append_cases}
 use Rattle.std.proofs.lemmas.Slice.Eq.{bytes_eq-Decides}
-use Rattle.rvs_yaml.proofs.WholeLines.{both_true}
 use Rattle.rvs_base.specs.Host.{Files}
 use Rattle.rvs_base.specs.declared.host.DeviceRun.{DeviceRun}
 use Rattle.rvs_sig.specs.Words.{text_of_words}
@@ -89,7 +88,7 @@ apart-tests : (isa : Isa) (ls : List Label) → names_are_apart ls ≡ true
 apart-tests isa [] apart = tt
 apart-tests isa (l ∷ ls) apart =
     let later = list_any (λ (m : Label). bytes_eq l.name m.name) ls in
-    let p = both_true (not later) (names_are_apart ls) apart in
+    let p = and_parts (not later) (names_are_apart ls) apart in
     apart-with l.name (step_limit (cases_of isa l)) l.selected (text_of_label isa l)
     (tests_of isa ls) (λ u there. let m = label-of isa ls u there in
     λ same. not-any l.name ls m.0 (not-true later p.0) m.1 (same ∙ m.2))

@@ -1,9 +1,8 @@
 // Group files, as they are printed or refused.
 use crate::stage::{number, plain};
-use rvs_base::{Items, NoMemory, Text, release};
+use rvs_base::{Fault, Items, NoMemory, Refusal, Text, release};
 use rvs_cgf::{CgfRefusal, Families, Groups, normal_text, read_groups};
 use rvs_count::count_log;
-use rvs_fault::{Fault, Refusal};
 use rvs_insn::{IsaSpec, USUAL_MEMORY};
 use std::alloc::Global;
 use std::test::Fail;

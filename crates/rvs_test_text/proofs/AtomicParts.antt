@@ -106,10 +106,6 @@ pub reserved_length : (op : Op) (regs : List ℕ) (m v : ℕ)
     → length (reserved_regs op regs m v) ≡ length regs
 reserved_length op regs m v = search rules
 
-read_past : (regs : List ℕ) (r : Option ℕ) (m v : ℕ) → unwrap_or r 0 ≢ m
-    → read_reg (write_reg regs (Some m) (Some v)) r ≡ read_reg regs r
-read_past regs r m v ne = search rules
-
 pub reserved_read : (op : Op) (regs : List ℕ) (r : Option ℕ) (m v : ℕ) → unwrap_or r 0 ≢ m
     → read_reg (reserved_regs op regs m v) r ≡ read_reg regs r
 reserved_read op regs r m v ne = search rules

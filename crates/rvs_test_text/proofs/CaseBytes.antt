@@ -1,11 +1,10 @@
 -- The bytes of a case.
-use Rattle.std.proofs.Common.{◌≡◌, ℕ, ◌+◌, ◌%◌, ◌≤◌, List, ◌∷◌, ◌++◌, Option, refl}
+use Rattle.std.proofs.Common.{◌≡◌, ℕ, ◌+◌, ◌%◌, List, ◌∷◌, ◌++◌, Option, refl}
 use Rattle.std.proofs.Common.{arith}
 use Rattle.std.specs.Prelude.{pos, unwrap_or}
 use Rattle.rvs_insn.specs.declared.op.Format.{Format}
 use Rattle.rvs_insn.specs.declared.op.Format.TheVariants.{JumpReg, Store, Branch, Jump, Amo}
 use Rattle.rvs_insn.specs.declared.op.Format.TheVariants.{LoadReserved}
-use Rattle.rvs_insn.specs.declared.op.Op.{Op}
 use Rattle.rvs_insn.specs.Isa.{Isa}
 use Rattle.rvs_insn.specs.Table.{row}
 use Rattle.rvs_insn.specs.Word.{IsEncodable}
@@ -13,16 +12,13 @@ use Rattle.rvs_choice.specs.Choice.{ChoiceValue, fields_of}
 use Rattle.rvs_test_text.specs.declared.statement.Name.TheVariants.{Case as CaseName, Scratch}
 use Rattle.rvs_test_text.specs.declared.statement.Statement.{Statement}
 use Rattle.rvs_test_text.specs.declared.statement.Statement.TheVariants.{Label, Plain}
-use Rattle.rvs_test_text.specs.Sound.{Accesses}
-use Rattle.rvs_test_text.specs.TestText.{pointer, marker, save, jump_case}
+use Rattle.rvs_test_text.specs.TestText.{pointer, marker, save}
 use Rattle.rvs_test_text.specs.TestText.{copy_word, case_by, choice_statements}
-use Rattle.rvs_test_text.specs.TestText.{get_word, reserve, atomic_case}
+use Rattle.rvs_test_text.specs.TestText.{get_word, reserve}
 use Rattle.rvs_test_text.specs.TestText.{bytes_all}
-use Rattle.rvs_test_text.proofs.AtomicParts.{reserve_size}
 use Rattle.rvs_test_text.proofs.AtomicRuns.{atomic_lead}
 use Rattle.rvs_test_text.proofs.Shapes.{lead, source_size}
-use Rattle.rvs_test_text.proofs.JumpNames.{frame_size, frame_bytes}
-use Rattle.rvs_test_text.proofs.PlainCases.{source_bytes}
+use Rattle.rvs_test_text.proofs.JumpNames.{frame_size}
 use Rattle.rvs_test_text.proofs.CaseParts.{IsMade, imm_of, sources}
 use Rattle.rvs_test_text.proofs.CaseParts.{frame_lead}
 
@@ -65,18 +61,6 @@ atomic_tail k c =
 abbrev pub atomic_rest : ℕ → ChoiceValue → List Statement
 atomic_rest k c = reserve c.op (unwrap_or c.rs1 0) (marker c) ++ atomic_tail k c
 
-reserve_bytes : (op : Op) (a m : ℕ) (ss : List Statement)
-    → bytes_all (reserve op a m ++ ss) ≡ reserve_size op + bytes_all ss
-reserve_bytes op a m ss = grind arith
-
-atomic_bytes : (k : ℕ) (c : ChoiceValue)
-    → bytes_all (atomic_case k c) ≡ atomic_lead (fields_of c) + 32
-atomic_bytes k c = grind (arith, source_size, reserve_size, source_bytes, reserve_bytes)
-
-jump_bytes : (k : ℕ) (c : ChoiceValue)
-    → bytes_all (jump_case k c) ≡ sources c + frame_size (imm_of c) + 16
-jump_bytes k c = grind (arith, imm_of, source_size, source_bytes, frame_size, frame_bytes)
-
 bytes_by : (f : Format) (k : ℕ) (c : ChoiceValue) → (row c.op).form ≡ f → IsEncodable (fields_of c)
     → bytes_all (case_by f k c) ≡ size_by f c
 bytes_by f k c e h = grind arith
@@ -85,20 +69,5 @@ pub case_bytes : (isa : Isa) (k : ℕ) (c : ChoiceValue) → IsMade isa c
     → bytes_all (choice_statements k c) ≡ case_size c
 case_bytes isa k c is = bytes_by (row c.op).form k c refl is.sound.encodable
 
-size_most : (f : Format) (isa : Isa) (c : ChoiceValue) → Accesses isa c f → size_by f c ≤ 2100
-size_most f isa c h = grind arith
-
-pub size_low : (isa : Isa) (c : ChoiceValue) → IsMade isa c → case_size c ≤ 2100
-size_low isa c is = size_most (row c.op).form isa c is.sound.memory
-
 pub source_four : (r : Option ℕ) → source_size r % 4 ≡ 0
 source_four r = grind arith
-
-reserve_four : (op : Op) → reserve_size op % 4 ≡ 0
-reserve_four op = grind arith
-
-atomic_words : (c : ChoiceValue) → (atomic_lead (fields_of c) + 32) % 4 ≡ 0
-atomic_words c = omega (arith, source_four c.rs1, source_four c.rs2, reserve_four c.op)
-
-pub size_words : (f : Format) (c : ChoiceValue) → size_by f c % 4 ≡ 0
-size_words f c = grind arith

@@ -86,11 +86,6 @@ pub atomic_made : (memory : Memory) (env : Name → ℕ) (pc k : ℕ) (c : Choic
     ≡ atomic_code memory (fields_of c) r.a c.w2 (pointer c) (marker c) (env (Slot k))
 atomic_made memory env pc k c r places w1 = grind (arith, nat_tests)
 
-aligned_there : (memory : Memory) → HasRoom memory → (op : Op) → (row op).form ≡ Store → (a : ℕ)
-    → a % access_size op ≡ 0
-    → (memory.data_base + a) % store_size op ≡ 0
-aligned_there memory room op h a e = grind arith
-
 pub taken : (isa : Isa) → HasRoom isa.memory → (op : Op) → (row op).form ≡ Store → (a : ℕ)
     → (a % access_size op ≡ 0) ⊎ (isa.misaligned ≡ true)
     → IsAligned isa (store_size op) (isa.memory.data_base + a)

@@ -1,9 +1,8 @@
 -- A register that isn't an operand.
-use Rattle.std.proofs.Common.{◌≡◌, ◌≢◌, ℕ, ◌<◌, Bool, false, cond, ◌||◌, not, [], ◌∷◌, Some}
+use Rattle.std.proofs.Common.{◌≡◌, ◌≢◌, ℕ, ◌<◌, Bool, cond, ◌||◌, not, [], ◌∷◌, Some}
 use Rattle.std.proofs.Common.{arith, rules}
 use Rattle.std.specs.Prelude.{◌==◌, unwrap_or}
 use Rattle.std.specs.List.{find}
-use Rattle.std.proofs.lemmas.Bool.Decides.{nat_tests}
 use Rattle.rvs_choice.specs.Choice.{ChoiceValue}
 use Rattle.rvs_test_text.specs.TestText.{pointer}
 
@@ -17,26 +16,6 @@ pub record IsFree (d a b p : ℕ) : Type 0 where
 
 abbrev is_free : ℕ → ℕ → ℕ → ℕ → Bool
 is_free d a b r = not (d == r || a == r || b == r)
-
--- one of the three is this number
-abbrev Taken : ℕ → ℕ → ℕ → ℕ → Type 0
-Taken d a b r = is_free d a b r ≡ false
-
-four : (d a b : ℕ) → Taken d a b 15 → Taken d a b 14 → Taken d a b 13 → Taken d a b 12 → ⊥
-four d a b h15 h14 h13 h12 = grind (arith, nat_tests)
-
-last : (d a b : ℕ) (t : Bool) → is_free d a b 12 ≡ t → Taken d a b 15 → Taken d a b 14
-    → Taken d a b 13
-    → IsFree d a b (unwrap_or (cond t (Some 12) (find (is_free d a b) (11 ∷ []))) 0)
-last d a b t e h15 h14 h13 = search rules
-
-third : (d a b : ℕ) (t : Bool) → is_free d a b 13 ≡ t → Taken d a b 15 → Taken d a b 14
-    → IsFree d a b (unwrap_or (cond t (Some 13) (find (is_free d a b) (12 ∷ 11 ∷ []))) 0)
-third d a b t e h15 h14 = search rules
-
-second : (d a b : ℕ) (t : Bool) → is_free d a b 14 ≡ t → Taken d a b 15
-    → IsFree d a b (unwrap_or (cond t (Some 14) (find (is_free d a b) (13 ∷ 12 ∷ 11 ∷ []))) 0)
-second d a b t e h15 = search rules
 
 first : (d a b : ℕ) (t : Bool) → is_free d a b 15 ≡ t
     → IsFree d a b (unwrap_or (cond t (Some 15) (find (is_free d a b) (14 ∷ 13 ∷ 12 ∷ 11 ∷ []))) 0)

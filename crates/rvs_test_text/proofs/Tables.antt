@@ -8,7 +8,6 @@ use Rattle.std.specs.Str.{bytes_eq}
 use Rattle.std.proofs.lemmas.Fmt.{decimal_injective}
 use Rattle.std.proofs.lemmas.Slice.Eq.{bytes_eq-Decides}
 use Rattle.std.proofs.lemmas.Bool.{cases_eq, false_from_ne_true}
-use Rattle.std.proofs.lemmas.Bool.Decides.{nat_tests}
 use Rattle.rvs_asm.specs.declared.mark.Mark.{Mark}
 use Rattle.rvs_asm.specs.Symbols.{Table, find_mark, has_mark, address_in, address_of}
 use Rattle.rvs_test_text.specs.declared.statement.Name.{Name}
@@ -116,9 +115,6 @@ stage n ToHost = n + 4
 stage n BeginSignature = n + 5
 stage n (Slot k) = n + 6 + k
 stage n EndSignature = n + n + 6
-
-same_number : (j k : ℕ) → (j == k) ≡ true → j ≡ k
-same_number j k h = grind (arith, nat_tests)
 
 same_stage : (n : ℕ) (a b : Name) → same_name a b ≡ true → stage n a ≡ stage n b
 same_stage n a b h = grind arith

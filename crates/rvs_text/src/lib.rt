@@ -8,4 +8,4 @@ mod cutting;
 mod spaces;
 
 pub use cutting::{around, around_text, before_end, behind, behind_token, parts};
-pub use spaces::{trimmed, without_spaces};
+pub use spaces::{trimmed, without_end, without_spaces};

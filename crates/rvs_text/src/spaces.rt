@@ -16,7 +16,8 @@ pub fn without_spaces(text: &str) -> &str
     ""
 }
 
-fn without_end(text: &str) -> &str
+/// The text without the spaces at its end.
+pub fn without_end(text: &str) -> &str
     ensures { result.now ≡ spec.without_end text.now }
 {
     &text[..solid_length(text.as_bytes())]

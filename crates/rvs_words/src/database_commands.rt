@@ -7,10 +7,10 @@ ghost use Rattle.rvs_words.specs.Reading.{Answers};
 
 use crate::command::{Command, RunArguments, RunDatabaseArguments, SelectArguments};
 use crate::families::read_families;
-use crate::group_commands::group_files;
+use crate::group_commands::MOST_GROUPS;
 use crate::parts::read_part;
 use crate::unread::Unread;
-use crate::words::{Pair, only_value, owned, read_options, values};
+use crate::words::{Pair, only_value, owned, read_options, some_values, two_values, values};
 use rvs_base::NoMemory;
 use std::alloc::Global;
 
@@ -23,11 +23,8 @@ pub fn read_select(alloc: Global, words: &[String]) -> Result<Command, Unread>
     ensures { Answers result (with_options select_options select_of (texts words.now)) }
 {
     let options = read_options(alloc, words, &["--isa", "--database"])?;
-    let pairs = options.as_slice();
-    Ok(Command::Select(SelectArguments {
-        isa: only_value(alloc, pairs, "--isa")?,
-        database: only_value(alloc, pairs, "--database")?,
-    }))
+    let (isa, database) = two_values(alloc, options.as_slice(), "--isa", "--database")?;
+    Ok(Command::Select(SelectArguments { isa, database }))
 }
 
 /// Reads the words behind `run`. The program's own name is kept with them.
@@ -88,13 +85,12 @@ fn is_given(alloc: Global, pairs: &[Pair], name: &str) -> Result<bool, NoMemory>
 fn run_groups(alloc: Global, program: &str, pairs: &[Pair]) -> Result<Command, Unread>
     ensures { Answers result (run_groups_of program.now (λ name. values_of name pairs.now)) }
 {
-    let isa = only_value(alloc, pairs, "--isa")?;
-    let groups = group_files(alloc, pairs)?;
-    let device = only_value(alloc, pairs, "--device")?;
-    let work = only_value(alloc, pairs, "--work")?;
-    let part = read_part(alloc, pairs)?;
     let families = read_families(alloc, pairs)?;
+    let part = read_part(alloc, pairs)?;
     let program = owned(alloc, program)?;
+    let isa = only_value(alloc, pairs, "--isa")?;
+    let groups = some_values(alloc, pairs, "--cgf", MOST_GROUPS)?;
+    let (device, work) = two_values(alloc, pairs, "--device", "--work")?;
     Ok(Command::Run(RunArguments {
         program,
         isa,
@@ -114,12 +110,10 @@ fn run_groups(alloc: Global, program: &str, pairs: &[Pair]) -> Result<Command, U
 fn run_database(alloc: Global, program: &str, pairs: &[Pair]) -> Result<Command, Unread>
     ensures { Answers result (run_database_of program.now (λ name. values_of name pairs.now)) }
 {
-    let isa = only_value(alloc, pairs, "--isa")?;
-    let database = only_value(alloc, pairs, "--database")?;
-    let device = only_value(alloc, pairs, "--device")?;
-    let work = only_value(alloc, pairs, "--work")?;
     let part = read_part(alloc, pairs)?;
     let program = owned(alloc, program)?;
+    let (isa, database) = two_values(alloc, pairs, "--isa", "--database")?;
+    let (device, work) = two_values(alloc, pairs, "--device", "--work")?;
     Ok(Command::RunDatabase(RunDatabaseArguments {
         program,
         isa,

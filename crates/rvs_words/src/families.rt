@@ -1,6 +1,6 @@
 // The families of abstract points on the command line.
 ghost use Rattle.std.specs.Prelude.{◌≡◌, codes};
-ghost use Rattle.rvs_words.specs.FamilyWords.{families_named, families_of};
+ghost use Rattle.rvs_words.specs.FamilyWords.{families_of};
 ghost use Rattle.rvs_words.specs.Reading.{Answers};
 ghost use Rattle.rvs_words.specs.Words.{values_of};
 
@@ -20,16 +20,12 @@ pub fn read_families(alloc: Global, pairs: &[Pair]) -> Result<Families, Unread>
 {
     match optional_value(alloc, pairs, "--families")? {
         None => Ok(Families::Stated),
-        Some(text) => families_named(text.as_str()).ok_or(Unread::NoCommand),
-    }
-}
-
-fn families_named(text: &str) -> Option<Families>
-    ensures { result ≡ families_named text.now }
-{
-    if text == "all" {
-        Some(Families::All)
-    } else {
-        None
+        Some(text) => {
+            if text.as_str() == "all" {
+                Ok(Families::All)
+            } else {
+                Err(Unread::NoCommand)
+            }
+        },
     }
 }

@@ -1,29 +1,31 @@
 // Execution logs on the command line, each with the range of its signature.
-ghost use Rattle.std.specs.Prelude.{◌≡◌, IfOk, map};
+ghost use Rattle.std.specs.Prelude.{◌≡◌, IfOk, codes, map};
 ghost use Rattle.rvs_words.specs.LogWords.{signed_log, signed_each, with_ranges, signed_logs};
+ghost use Rattle.rvs_words.specs.Words.{values_of};
 ghost use Rattle.rvs_words.specs.Reading.{Answers};
 
 use crate::command::SignedLog;
 use crate::unread::Unread;
 use crate::windows::read_ranges;
-use crate::words::owned;
+use crate::words::{Pair, owned, values};
 use rvs_base::{Items, NoMemory, Text, Window};
 use std::alloc::Global;
 
-/// The logs of these names, each with the range that one of the texts spells.
+/// The logs of these names, each with the range that a value of `--signature` spells.
 ///
 /// # Errors
 ///
-/// [`Unread`]: `NoCommand` where a text spells no range, or where there is neither one text nor one
-/// for each log.
-pub fn with_signatures(
+/// [`Unread`]: `NoCommand` where a value spells none, or where there is neither one nor one for
+/// each log.
+pub fn given_signatures(
     alloc: Global,
+    pairs: &[Pair],
     names: &[Text],
-    texts: &[Text],
 ) -> Result<Items<SignedLog>, Unread>
-    ensures { Answers result (signed_logs names.now texts.now) }
+    ensures { Answers result (signed_logs names.now (values_of (codes "--signature") pairs.now)) }
 {
-    let ranges = read_ranges(alloc, texts)?;
+    let spelled = values(alloc, pairs, "--signature")?;
+    let ranges = read_ranges(alloc, spelled.as_slice())?;
     with_ranges(alloc, names, ranges.as_slice())
 }
 

@@ -1,6 +1,6 @@
 // The option that has no value on the command line.
 ghost use Rattle.std.specs.Prelude.{◌≡◌, codes};
-ghost use Rattle.rvs_words.specs.Commands.{flag_of, flag_with};
+ghost use Rattle.rvs_words.specs.Commands.{flag_of};
 ghost use Rattle.rvs_words.specs.Reading.{Answers};
 ghost use Rattle.rvs_words.specs.Words.{values_of};
 
@@ -19,12 +19,12 @@ pub fn read_progress(alloc: Global, pairs: &[Pair]) -> Result<bool, Unread>
 {
     match optional_value(alloc, pairs, "--progress")? {
         None => Ok(false),
-        Some(value) => flag_with(value.as_str()).ok_or(Unread::NoCommand),
+        Some(value) => {
+            if value.as_str().is_empty() {
+                Ok(true)
+            } else {
+                Err(Unread::NoCommand)
+            }
+        },
     }
-}
-
-fn flag_with(value: &str) -> Option<bool>
-    ensures { result ≡ flag_with value.now }
-{
-    if value.is_empty() { Some(true) } else { None }
 }

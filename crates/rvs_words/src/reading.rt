@@ -1,11 +1,9 @@
 // Reading the words of a command line.
-ghost use Rattle.std.specs.Prelude.{◌≡◌, IfOk, codes, option_and_then};
-ghost use Rattle.rvs_base.specs.Asked.{size_of};
+ghost use Rattle.std.specs.Prelude.{◌≡◌, IfOk, codes};
 ghost use Rattle.rvs_words.specs.Words.{texts, values_of};
 ghost use Rattle.rvs_words.specs.Commands.{compare_of, validate_options, validate_of};
 ghost use Rattle.rvs_words.specs.Commands.{reference_options, reference_of, demo_of, with_options};
-ghost use Rattle.rvs_words.specs.Commands.{asked_by, command_of, named, number_of};
-ghost use Rattle.rvs_words.specs.Commands.{within_steps, steps_of};
+ghost use Rattle.rvs_words.specs.Commands.{command_of, named, number_of, steps_of};
 ghost use Rattle.rvs_words.specs.Reading.{Answers};
 
 use crate::command::{Command, CompareArguments, ReferenceArguments, ValidateArguments};
@@ -14,7 +12,9 @@ use crate::group_commands::{
     read_coverage, read_generate, read_normalize, read_propagate, read_report,
 };
 use crate::unread::Unread;
-use crate::words::{Pair, is_positional, only_value, optional_value, owned, read_options};
+use crate::words::{
+    Pair, is_positional, only_value, optional_value, owned, read_options, two_values,
+};
 use rvs_base::{DemoSize, NoMemory, short_number};
 use std::alloc::Global;
 
@@ -29,19 +29,13 @@ const MOST_STEPS: u64 = 2_000_000;
 pub fn read_command(alloc: Global, words: &[String]) -> Result<Command, NoMemory>
     ensures { IfOk result (λ command. command ≡ command_of (texts words.now)) }
 {
-    match read_named(alloc, words) {
+    let [program, name, rest @ ..] = words else {
+        return Ok(Command::Unknown);
+    };
+    match read_by(alloc, program.as_str(), name.as_str(), rest) {
         Ok(command) => Ok(command),
         Err(Unread::NoCommand) => Ok(Command::Unknown),
         Err(Unread::NoMemory) => Err(NoMemory),
-    }
-}
-
-fn read_named(alloc: Global, words: &[String]) -> Result<Command, Unread>
-    ensures { Answers result (asked_by (texts words.now)) }
-{
-    match words {
-        [program, name, rest @ ..] => read_by(alloc, program.as_str(), name.as_str(), rest),
-        _ => Err(Unread::NoCommand),
     }
 }
 
@@ -92,11 +86,10 @@ fn read_reference(alloc: Global, words: &[String]) -> Result<Command, Unread>
     let names = ["--isa", "--test", "--signature", "--log", "--steps"];
     let options = read_options(alloc, words, &names)?;
     let pairs = options.as_slice();
-    let isa = only_value(alloc, pairs, "--isa")?;
-    let test = only_value(alloc, pairs, "--test")?;
-    let signature = only_value(alloc, pairs, "--signature")?;
-    let log = optional_value(alloc, pairs, "--log")?;
     let steps = read_steps(alloc, pairs)?;
+    let log = optional_value(alloc, pairs, "--log")?;
+    let signature = only_value(alloc, pairs, "--signature")?;
+    let (isa, test) = two_values(alloc, pairs, "--isa", "--test")?;
     Ok(Command::Reference(ReferenceArguments {
         isa,
         test,
@@ -117,7 +110,10 @@ fn read_steps(alloc: Global, pairs: &[Pair]) -> Result<Option<u64>, Unread>
 {
     match optional_value(alloc, pairs, "--steps")? {
         None => Ok(None),
-        Some(text) => Ok(Some(steps_in(text.as_str()).ok_or(Unread::NoCommand)?)),
+        Some(text) => match read_number(text.as_str()) {
+            Some(steps) if (1..=MOST_STEPS).contains(&steps) => Ok(Some(steps)),
+            _ => Err(Unread::NoCommand),
+        },
     }
 }
 
@@ -127,20 +123,9 @@ fn read_demo(words: &[String]) -> Result<Command, Unread>
     let [text] = words else {
         return Err(Unread::NoCommand);
     };
-    let count = size_in(text.as_str()).ok_or(Unread::NoCommand)?;
-    Ok(Command::Demo(count))
-}
-
-fn size_in(text: &str) -> Option<DemoSize>
-    ensures { result ≡ option_and_then size_of (number_of text.now) }
-{
-    DemoSize::new(read_number(text)?)
-}
-
-fn steps_in(text: &str) -> Option<u64>
-    ensures { result ≡ within_steps (number_of text.now) }
-{
-    read_number(text).filter(|steps| (1..=MOST_STEPS).contains(steps))
+    let count = read_number(text.as_str()).ok_or(Unread::NoCommand)?;
+    let size = DemoSize::new(count).ok_or(Unread::NoCommand)?;
+    Ok(Command::Demo(size))
 }
 
 /// A number of one to seven decimal digits.

@@ -1,28 +1,11 @@
 // Windows of addresses on the command line.
 ghost use Rattle.std.specs.Prelude.{◌≡◌};
 ghost use Rattle.rvs_words.specs.Reading.{Answers};
-ghost use Rattle.rvs_words.specs.Windows.{address_of, window_of, all_windows, windows_of};
+ghost use Rattle.rvs_words.specs.Windows.{address_of, window_of, all_windows};
 
 use crate::unread::Unread;
 use rvs_base::{Items, Text, Window, cut, short_number};
 use std::alloc::Global;
-
-/// The most windows that may be given.
-const MOST_WINDOWS: usize = 16;
-
-/// The windows that these words spell, each `LO:HI`.
-///
-/// # Errors
-///
-/// [`Unread`]: `NoCommand` where one spells none, or where there are more than 16.
-pub fn read_windows(alloc: Global, texts: &[Text]) -> Result<Items<Window>, Unread>
-    ensures { Answers result (windows_of texts.now) }
-{
-    if texts.len() > MOST_WINDOWS {
-        return Err(Unread::NoCommand);
-    }
-    read_ranges(alloc, texts)
-}
 
 /// The ranges of addresses that these words spell, each `LO:HI`.
 ///
@@ -61,5 +44,5 @@ fn address_in(text: &[u8]) -> Option<u32>
     ensures { result ≡ address_of text.now }
 {
     let digits = text.strip_prefix(b"0x")?;
-    short_number(8, 16, digits).map(|word| word as u32)
+    Some(short_number(8, 16, digits)? as u32)
 }

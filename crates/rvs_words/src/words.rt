@@ -1,9 +1,10 @@
 // The words of a command line, and its options.
-ghost use Rattle.std.specs.Prelude.{◌≡◌, ◌≤◌, ◌∷◌, ℕ, List, length, Some, None, IfOk};
+ghost use Rattle.std.specs.Prelude.{◌≡◌, ◌≤◌, ◌∷◌, ◌⊎◌, ℕ, List, length, Some, None, IfOk, IfErr};
 ghost use Rattle.std.specs.Prelude.{MatchOption, MatchResult, bytes_eq};
 ghost use Rattle.std.specs.List.{list_any, list_all};
 ghost use Rattle.rvs_words.specs.Words.{texts, is_positional, pair_in, with_pair, pairs_of};
 ghost use Rattle.rvs_words.specs.Words.{options_in, values_of, only, at_most_one};
+ghost use Rattle.rvs_words.specs.Commands.{some_of, up_to};
 ghost use Rattle.rvs_words.specs.Reading.{Answers};
 
 use crate::unread::Unread;
@@ -130,7 +131,7 @@ fn are_known(pairs: &[Pair], names: &[&str]) -> bool
 fn is_one_of(word: &str, names: &[&str]) -> bool
     ensures { result ≡ list_any (λ name. bytes_eq word.now name.now) names.now }
 {
-    names.iter().any(|name| word == *name)
+    names.contains(&word)
 }
 
 /// The values of an option, in order.
@@ -150,6 +151,48 @@ pub fn values(alloc: Global, pairs: &[Pair], name: &str) -> Result<Items<Text>, 
     Ok(values)
 }
 
+/// The values of an option that stands at least once, and so many times at most.
+///
+/// # Errors
+///
+/// [`Unread`]: `NoCommand` where it doesn't stand, or stands more often.
+pub fn some_values(
+    alloc: Global,
+    pairs: &[Pair],
+    name: &str,
+    most: usize,
+) -> Result<Items<Text>, Unread>
+    ensures { Answers result (some_of most (values_of name.now pairs.now)) }
+{
+    let values = values(alloc, pairs, name)?;
+    if (1..=most).contains(&values.as_slice().len()) {
+        Ok(values)
+    } else {
+        Err(Unread::NoCommand)
+    }
+}
+
+/// The values of an option that stands so many times at most.
+///
+/// # Errors
+///
+/// [`Unread`]: `NoCommand` where it stands more often.
+pub fn few_values(
+    alloc: Global,
+    pairs: &[Pair],
+    name: &str,
+    most: usize,
+) -> Result<Items<Text>, Unread>
+    ensures { Answers result (up_to most (values_of name.now pairs.now)) }
+{
+    let values = values(alloc, pairs, name)?;
+    if values.as_slice().len() <= most {
+        Ok(values)
+    } else {
+        Err(Unread::NoCommand)
+    }
+}
+
 /// The value of an option that stands once.
 ///
 /// # Errors
@@ -160,6 +203,28 @@ pub fn only_value(alloc: Global, pairs: &[Pair], name: &str) -> Result<Text, Unr
     ensures { Answers result (only (values_of name.now pairs.now)) }
 {
     optional_value(alloc, pairs, name)?.ok_or(Unread::NoCommand)
+}
+
+/// The values of two options, each of which stands once.
+///
+/// # Errors
+///
+/// [`Unread`]: `NoCommand` where one of them doesn't stand, or stands more than once.
+pub fn two_values(
+    alloc: Global,
+    pairs: &[Pair],
+    first: &str,
+    second: &str,
+) -> Result<(Text, Text), Unread>
+    ensures read { IfOk result (λ x. (only (values_of first.now pairs.now) ≡ Some x.0)
+        × (only (values_of second.now pairs.now) ≡ Some x.1)) }
+    ensures none { IfErr result (λ e. e ≡ Unread.NoCommand
+        → (only (values_of first.now pairs.now) ≡ None)
+        ⊎ (only (values_of second.now pairs.now) ≡ None)) }
+{
+    let first = only_value(alloc, pairs, first)?;
+    let second = only_value(alloc, pairs, second)?;
+    Ok((first, second))
 }
 
 /// The value of an option that needn't stand.

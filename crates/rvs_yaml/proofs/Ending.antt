@@ -1,9 +1,9 @@
 -- What the reader answers at its end.
 use Rattle.std.proofs.Common.{◌≡◌, ℕ, Bool, List, Option, None, Ok, Err, refl, ap, ◌∙◌}
 use Rattle.std.specs.Borrow.{Bor}
-use Rattle.rvs_fault.specs.Answers.{IfRefused}
-use Rattle.rvs_fault.specs.declared.faults.Fault.{Fault}
-use Rattle.rvs_fault.specs.declared.faults.Fault.TheVariants.{Refused, NoMemory}
+use Rattle.rvs_base.specs.Answers.{IfRefused}
+use Rattle.rvs_base.specs.declared.fault.Fault.{Fault}
+use Rattle.rvs_base.specs.declared.fault.Fault.TheVariants.{Refused, NoMemory}
 use Rattle.rvs_yaml.specs.Checks.{Checked, ◌>>=◌}
 use Rattle.rvs_tree.specs.Data.{Data}
 use Rattle.rvs_tree.specs.Value.{Value}

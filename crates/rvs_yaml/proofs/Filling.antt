@@ -1,5 +1,5 @@
 -- A word without its flow collection, and then that, are what the word is.
-use Rattle.std.proofs.Common.{◌≡◌, ℕ, Bool, true, false, List, [], ◌∷◌, None}
+use Rattle.std.proofs.Common.{◌≡◌, ℕ, Bool, true, false, List, [], ◌∷◌, None, Some, refl}
 use Rattle.std.proofs.Common.{sym, ap, ◌∙◌, arith, rules}
 use Rattle.std.specs.Prelude.{if◌then◌else◌}
 use Rattle.rvs_tree.specs.Value.{Value}
@@ -60,7 +60,8 @@ step-by false w u f b bs h = settled-hollow w u f (own_found b) b bs h
 step-words : (w u : Word) (f : Flow) (bs : List Open) → Hollows w u f
     → step bs w ≡ (step bs u >>= filled f)
 step-words w u f [] h = h.beginning []
-step-words w u f (b ∷ bs) h = grind (arith, step-by)
+step-words w u f (b ∷ bs) h =
+    ap (λ t. step_or t b bs w) (h.below b.head) ∙ step-by (is_below b.head u) w u f b bs h
 
 nothing-more : (m : Checked (List Open)) → m ≡ (m >>= filled None)
 nothing-more m = grind arith
@@ -79,16 +80,38 @@ step-shape : (line column : ℕ) (s : Shape) (bs : List Open) → step bs (word_
     ≡ (step bs (word_at line column (hollow_shape s)) >>= filled (flow_of s))
 step-shape line column (dash a) bs = nothing-more (step bs (word_at line column (dash a)))
 step-shape line column (refused k) bs = nothing-more (step bs (word_at line column (refused k)))
-step-shape line column (key k a nothing) bs = grind (arith, nothing-more)
-step-shape line column (key k a (text t)) bs = grind (arith, nothing-more)
-step-shape line column (key k a (alias n e)) bs = grind (arith, nothing-more)
-step-shape line column (key k a (faulty e)) bs = grind (arith, nothing-more)
-step-shape line column (key k a (flow b ts)) bs = search (rules, step-words, advancing-key)
-step-shape line column (leaf nothing) bs = grind (arith, nothing-more)
-step-shape line column (leaf (text t)) bs = grind (arith, nothing-more)
-step-shape line column (leaf (alias n e)) bs = grind (arith, nothing-more)
-step-shape line column (leaf (faulty e)) bs = grind (arith, nothing-more)
-step-shape line column (leaf (flow b ts)) bs = search (rules, step-words, advancing-leaf)
+step-shape line column (key k a nothing) bs =
+    nothing-more (step bs (word_at line column (key k a nothing)))
+step-shape line column (key k a (text t)) bs =
+    nothing-more (step bs (word_at line column (key k a (text t))))
+step-shape line column (key k a (alias n e)) bs =
+    nothing-more (step bs (word_at line column (key k a (alias n e))))
+step-shape line column (key k a (faulty e)) bs =
+    nothing-more (step bs (word_at line column (key k a (faulty e))))
+step-shape line column (key k a (flow b ts)) bs =
+    step-words (word_at line column (key k a (flow b ts))) (word_at line column (key k a (text [])))
+    (Some (b, ts)) bs (record {
+      below = λ h. refl;
+      beginning = λ cs. refl;
+      advancing = advancing-key k a b ts line column;
+      putting = λ l m d anchors cs. refl;
+    })
+step-shape line column (leaf nothing) bs =
+    nothing-more (step bs (word_at line column (leaf nothing)))
+step-shape line column (leaf (text t)) bs =
+    nothing-more (step bs (word_at line column (leaf (text t))))
+step-shape line column (leaf (alias n e)) bs =
+    nothing-more (step bs (word_at line column (leaf (alias n e))))
+step-shape line column (leaf (faulty e)) bs =
+    nothing-more (step bs (word_at line column (leaf (faulty e))))
+step-shape line column (leaf (flow b ts)) bs =
+    step-words (word_at line column (leaf (flow b ts))) (word_at line column (leaf (text [])))
+    (Some (b, ts)) bs (record {
+      below = λ h. refl;
+      beginning = λ cs. refl;
+      advancing = advancing-leaf b ts line column;
+      putting = λ l m d anchors cs. refl;
+    })
 
 pub step-hollow : (bs : List Open) (w : Word)
     → step bs w ≡ (step bs (hollow w) >>= filled (flow_of w.shape))

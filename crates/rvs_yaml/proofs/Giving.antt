@@ -1,7 +1,7 @@
 -- Results against checks that go on.
 use Rattle.std.proofs.Common.{◌≡◌, List, Result, Err, ap, subst, ◌∙◌, sym, arith}
-use Rattle.rvs_fault.specs.declared.faults.Fault.{Fault}
-use Rattle.rvs_fault.specs.declared.faults.Fault.TheVariants.{Refused}
+use Rattle.rvs_base.specs.declared.fault.Fault.{Fault}
+use Rattle.rvs_base.specs.declared.fault.Fault.TheVariants.{Refused}
 use Rattle.rvs_yaml.specs.Checks.{Checked, ◌>>=◌}
 use Rattle.rvs_yaml.specs.Gives.{Decides, Gives, Fails, FailsWith}
 use Rattle.rvs_yaml.specs.Reader.{kept, Passes, RefusesFront, DeniesFront}

@@ -40,18 +40,25 @@ tells-end lines (Ok d) e before = record {
   ];
   whole = e;
 }
-tells-end lines (Err kind) e before = grind (arith, take_more_than)
+tells-end lines (Err kind) e before = record {
+  before = before;
+  fault = ap front (take_more_than lines (length lines) (omega arith)) ∙ e;
+}
 
 tells-line : (lines done : List (List ℕ)) (n : ℕ) (r : Checked Data) (more : Parsed)
     → take n lines ≡ done → front done ≡ r → FrontsHave lines n
     → (HasTree (take n lines) → Tells lines more)
     → Tells lines (elim r as (λ _. Parsed) [ Err kind ↦ Err (n, kind) | Ok d ↦ more ])
 tells-line lines done n (Ok d) more is e before next = next (d, ap front is ∙ e)
-tells-line lines done n (Err kind) more is e before next = grind arith
+tells-line lines done n (Err kind) more is e before next =
+    record { before = before; fault = ap front is ∙ e }
 
 tells-after : (ls done lines : List (List ℕ)) → done ++ ls ≡ lines → FrontsHave lines (length done)
     → HasTree (take (length done) lines) → Tells lines (answer_after done ls)
-tells-after [] done lines is before here = grind (arith, append-nil, tells-end)
+tells-after [] done lines is before here =
+    let same : done ≡ lines = sym (append-nil done) ∙ is in
+    subst (λ xs. Tells lines (at_end (length xs) (front xs))) (sym same)
+    (tells-end lines (front lines) refl (subst (λ xs. FrontsHave lines (length xs)) same before))
 tells-after (l ∷ ls) done lines is before here =
     let regrouped : (done ++ l ∷ []) ++ ls ≡ lines = append_assoc done (l ∷ []) ls ∙ is in
     let n : length done + 1 ≡ length (done ++ l ∷ []) =

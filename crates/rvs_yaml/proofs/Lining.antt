@@ -2,8 +2,9 @@
 use Rattle.std.proofs.Common.{◌≡◌, ℕ, suc, ◌+◌, ◌-◌, ◌≤◌, Bool, true, false, List, [], ◌∷◌, length}
 use Rattle.std.proofs.Common.{Option, Some, None, refl, sym, ap, ◌∙◌, arith, rules}
 use Rattle.std.specs.Prelude.{◌==◌, ◌&&◌}
+use Rattle.rvs_text.specs.Spaces.{without_spaces}
 use Rattle.rvs_yaml_text.specs.Word.{dash}
-use Rattle.rvs_yaml_text.specs.Scalar.{without_spaces, ends_indicator, is_blank}
+use Rattle.rvs_yaml_text.specs.Scalar.{ends_indicator, is_blank}
 use Rattle.rvs_yaml_text.specs.Text.{word_at, item_name, words_at, last_words}
 use Rattle.rvs_yaml.specs.LineParts.{behind_dash, rest_words}
 

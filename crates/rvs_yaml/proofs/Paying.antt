@@ -1,8 +1,8 @@
 -- Refusing a line for its front before the value of its flow collection is made.
 use Rattle.std.proofs.Common.{◌≡◌, false, List, ◌∷◌, ◌++◌, Some, Result}
 use Rattle.std.proofs.Common.{Ok, Err, arith}
-use Rattle.rvs_fault.specs.Answers.{seen}
-use Rattle.rvs_fault.specs.declared.faults.Fault.{Fault}
+use Rattle.rvs_base.specs.Answers.{seen}
+use Rattle.rvs_base.specs.declared.fault.Fault.{Fault}
 use Rattle.rvs_tree.specs.Value.{Value}
 use Rattle.rvs_tree.specs.Standin.{standin}
 use Rattle.rvs_yaml_text.specs.Word.{Bracket, Token, opens_block}

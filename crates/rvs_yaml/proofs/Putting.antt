@@ -2,8 +2,8 @@
 use Rattle.std.proofs.Common.{◌≡◌, ◌-◌, Bool, true, false, List, ◌∷◌, length, take, Some, None, Ok}
 use Rattle.std.proofs.Common.{refl, sym, ap, subst, ◌∙◌}
 use Rattle.std.specs.Prelude.{slice_get, Option}
-use Rattle.rvs_fault.specs.Answers.{seen}
-use Rattle.rvs_fault.specs.declared.faults.Fault.{Fault}
+use Rattle.rvs_base.specs.Answers.{seen}
+use Rattle.rvs_base.specs.declared.fault.Fault.{Fault}
 use Rattle.rvs_yaml.specs.Checks.{Checked, ◌>>◌, check}
 use Rattle.rvs_yaml.specs.Gives.{Fails}
 use Rattle.rvs_yaml.specs.Stack as spec

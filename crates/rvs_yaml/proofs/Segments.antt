@@ -10,7 +10,7 @@ use Rattle.std.proofs.lemmas.Option.{slice_get-get_or}
 use Rattle.rvs_tree.specs.Value.{Value}
 use Rattle.rvs_tree.specs.ValueView.{value_view}
 use Rattle.rvs_tree.specs.declared.counted.Value as made
-use Rattle.rvs_fault.specs.declared.faults.Fault.{Fault}
+use Rattle.rvs_base.specs.declared.fault.Fault.{Fault}
 use Rattle.rvs_yaml.specs.Gives.{Gives}
 use Rattle.rvs_yaml.specs.declared.anchor_list.AnchorList.{AnchorList}
 use Rattle.rvs_yaml_text.specs.declared.kind.YamlKind.{YamlKind}

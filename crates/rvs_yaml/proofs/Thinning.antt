@@ -2,7 +2,7 @@
 use Rattle.std.proofs.Common.{◌≡◌, ℕ, Bool, true, false, cond, List, [], ◌∷◌, ◌++◌, map, Option}
 use Rattle.std.proofs.Common.{Some, Ok, refl, sym, ap, ◌∙◌, arith, rules}
 use Rattle.std.specs.Prelude.{◌&&◌, ◌||◌, not, option_map, if◌then◌else◌}
-use Rattle.rvs_fault.specs.Answers.{seen}
+use Rattle.rvs_base.specs.Answers.{seen}
 use Rattle.rvs_tree.specs.Data.{Data, scalar, sequence, no_items, items_of}
 use Rattle.rvs_tree.specs.Value.{Value, Written, scalar_value, list_value, map_value, trees, plus}
 use Rattle.rvs_tree.specs.Value.{nodes_from, written_nodes_from, text_nodes, is_map_or_empty}

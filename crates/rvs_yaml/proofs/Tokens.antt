@@ -3,7 +3,7 @@ use Rattle.std.proofs.Common.{◌≡◌, ℕ, suc, Bool, true, false, List, [], 
 use Rattle.std.proofs.Common.{arith}
 use Rattle.std.specs.Prelude.{◌==◌, ◌&&◌}
 use Rattle.std.proofs.lemmas.Bool.Decides.{nat_tests}
-use Rattle.rvs_fault.specs.Answers.{seen}
+use Rattle.rvs_base.specs.Answers.{seen}
 use Rattle.rvs_yaml_text.specs.Bytes.{space_byte}
 use Rattle.rvs_yaml_text.specs.Scalar.{starts_with}
 use Rattle.rvs_yaml.specs.Checks.{Checked, ◌>>=◌}

@@ -1,7 +1,7 @@
 -- The words of whole lines.
 use Rattle.std.proofs.Common.{◌≡◌, ℕ, Bool, true, false, List, [], ◌∷◌, Ok, refl, sym, ap}
 use Rattle.std.proofs.Common.{IsUtf8}
-use Rattle.std.specs.Prelude.{◌==◌, ◌&&◌}
+use Rattle.std.specs.Prelude.{◌==◌}
 use Rattle.std.specs.Str.{is_utf8}
 use Rattle.std.proofs.Common.{arith}
 use Rattle.rvs_yaml_text.specs.Scalar.{is_blank}
@@ -81,9 +81,6 @@ pub checked-nothing : (bs after : List Open) (line : ℕ) (started : Bool) (byte
     → steps bs (line_words line started bytes) ≡ Ok after
     → checked_line bs line started bytes ≡ Ok after
 checked-nothing bs after line started bytes none kept e = grind arith
-
-pub both_true : (x y : Bool) → (x && y) ≡ true → (x ≡ true) × (y ≡ true)
-both_true x y h = grind arith
 
 -- a word alone, from what it is without its flow collection
 pub word-parts : (bs : List Open) (w u : Word) (f : Flow) (ws : List Word) → ws ≡ w ∷ []

@@ -1,7 +1,7 @@
 -- What functions that may fail return, against checks.
 use Rattle.std.specs.Prelude.{◌≡◌, Result, Ok, Err}
-use Rattle.rvs_fault.specs.declared.faults.Fault.{Fault}
-use Rattle.rvs_fault.specs.declared.faults.Fault.TheVariants.{Refused, NoMemory}
+use Rattle.rvs_base.specs.declared.fault.Fault.{Fault}
+use Rattle.rvs_base.specs.declared.fault.Fault.TheVariants.{Refused, NoMemory}
 use Rattle.rvs_yaml.specs.Checks.{Checked}
 use Rattle.rvs_yaml_text.specs.declared.kind.YamlKind.{YamlKind}
 

@@ -1,7 +1,7 @@
 -- What a refusal says.
 use Rattle.std.specs.Prelude.{ℕ, List, ◌++◌, codes, decimal}
-use Rattle.rvs_fault.specs.declared.faults.Fault.{Fault}
-use Rattle.rvs_fault.specs.declared.faults.Fault.TheVariants.{Refused, NoMemory}
+use Rattle.rvs_base.specs.declared.fault.Fault.{Fault}
+use Rattle.rvs_base.specs.declared.fault.Fault.TheVariants.{Refused, NoMemory}
 use Rattle.rvs_yaml.specs.declared.refusal.YamlRefusal.{YamlRefusal}
 use Rattle.rvs_yaml_text.specs.Kinds.{number_of}
 use Rattle.rvs_yaml_text.specs.declared.kind.YamlKind.{YamlKind}

@@ -8,12 +8,11 @@ ghost use Rattle.rvs_yaml.specs.StackView.{open_blocks};
 use crate::anchor_list::AnchorList;
 use crate::arrivals::Arrivals;
 use crate::chain::{merges, root_of};
-use crate::fill::fill_flow;
-use crate::open::{Block, Done, Open};
+use crate::fill::fill;
+use crate::open::{Done, Open};
 use crate::open_blocks::OpenBlocks;
 use crate::taking::push;
-use rvs_base::{beside, release};
-use rvs_fault::Fault;
+use rvs_base::{Fault, beside, release};
 use rvs_tree::{Tree, tree_of};
 use rvs_yaml_text::{Bracket, YamlKind};
 use std::alloc::{AllocError, Global};
@@ -28,19 +27,14 @@ fn entries_of(done: &Done) -> usize {
     }
 }
 
-/// Whether these keys came below this map as it is now.
-fn came_below(arrivals: &Arrivals, block: &Block) -> bool {
-    merges(&block.done)
-        && arrivals.line == block.line
-        && arrivals.entries == entries_of(&block.done)
-}
-
-/// Whether these keys came below a map that is still open.
+/// Whether these keys came below a map that is still open, and is as it was.
 fn is_open(arrivals: &Arrivals, blocks: &[Open<'_>]) -> bool {
-    match blocks.get(arrivals.place) {
-        Some(open) => came_below(arrivals, &open.block),
-        None => false,
-    }
+    let Some(open) = blocks.get(arrivals.place) else {
+        return false;
+    };
+    merges(&open.block.done)
+        && arrivals.line == open.block.line
+        && arrivals.entries == entries_of(&open.block.done)
 }
 
 /// Lets those go that came below maps that aren't open any more.
@@ -54,19 +48,6 @@ fn keep_open(all: &mut Vec<Arrivals>, blocks: &[Open<'_>]) {
             return;
         }
         all.pop();
-    }
-}
-
-/// No keys yet, below the map at this place.
-fn none_below(alloc: Global, blocks: &[Open<'_>], place: usize) -> Arrivals
-    requires { place < length blocks.now }
-{
-    let block = &blocks[place].block;
-    Arrivals {
-        place,
-        line: block.line,
-        entries: entries_of(&block.done),
-        lines: BTreeMap::new(alloc),
     }
 }
 
@@ -86,7 +67,14 @@ fn begin_below(
     if begun {
         return Ok(());
     }
-    push(all, none_below(alloc, blocks, place))
+    let block = &blocks[place].block;
+    let none_yet = Arrivals {
+        place,
+        line: block.line,
+        entries: entries_of(&block.done),
+        lines: BTreeMap::new(alloc),
+    };
+    push(all, none_yet)
 }
 
 /// Adds this key to others, as one that came on this line if it wasn't there before.
@@ -133,24 +121,7 @@ fn add_tree(
     add_map(alloc, lines, tree, line)
 }
 
-/// Adds the keys that the last word brings by itself, where that is merged.
-fn add_own(
-    alloc: Global,
-    lines: &mut BTreeMap<String, u64>,
-    top: &Open<'_>,
-) -> Result<(), AllocError> {
-    match &top.own {
-        Some(value) => {
-            let tree = tree_of(alloc, value)?;
-            let added = add_tree(alloc, lines, &tree, top.head.line);
-            release(tree);
-            added
-        }
-        None => Ok(()),
-    }
-}
-
-/// Adds the keys that the last word brings.
+/// Adds the key that the last word brings, or, where it merges, the keys that it brings by itself.
 fn add_word(
     alloc: Global,
     lines: &mut BTreeMap<String, u64>,
@@ -160,7 +131,15 @@ fn add_word(
         Done::Entries(pending) if !pending.key.merges => {
             add_key(alloc, lines, pending.key.name.as_str(), top.head.line)
         }
-        _ => add_own(alloc, lines, top),
+        _ => match &top.own {
+            Some(value) => {
+                let tree = tree_of(alloc, value)?;
+                let added = add_tree(alloc, lines, &tree, top.head.line);
+                release(tree);
+                added
+            }
+            None => Ok(()),
+        },
     }
 }
 
@@ -211,6 +190,8 @@ pub(crate) fn filled<'a>(
     ensures { Passes open_blocks result
         (spec.filled (flow_view flow.entry) (open_blocks stack.entry)) }
 {
-    let stack = fill_flow(alloc, stack, flow)?;
-    Ok(noted(alloc, stack)?)
+    match flow {
+        Some((bracket, text)) => Ok(noted(alloc, fill(alloc, stack, bracket, text)?)?),
+        None => Ok(noted(alloc, stack)?),
+    }
 }

@@ -1,17 +1,14 @@
 // Whether a word may begin a block, told without memory.
 ghost use Rattle.std.specs.Prelude.{◌≡◌};
-ghost use Rattle.rvs_yaml.specs.Checks.{check};
 ghost use Rattle.rvs_yaml.specs.Gives.{Agrees};
 ghost use Rattle.rvs_yaml.specs.StackView.{anchors_view, open_blocks};
 ghost use Rattle.rvs_yaml.specs.StepParts as parts;
-ghost use Rattle.rvs_yaml_text.specs.Word.{opens_block};
-ghost use Rattle.rvs_yaml_text.specs.WordView.{content_view, shape_view, word_view, head_view};
-ghost use Rattle.rvs_yaml_text.specs.declared.kind.YamlKind.TheVariants.{Unsupported};
+ghost use Rattle.rvs_yaml_text.specs.WordView.{shape_view, word_view};
 
 use crate::anchor_list::AnchorList;
 use crate::anchoring::find_anchor;
 use crate::open_blocks::OpenBlocks;
-use rvs_yaml_text::{Content, Head, Shape, Word, YamlKind, is_below};
+use rvs_yaml_text::{Content, Shape, Word, YamlKind, is_below};
 
 /// Whether an alias with this name stands for something, and nothing but a comment is behind it.
 pub(crate) fn check_alias(anchors: &AnchorList<'_>, name: &str, ended: bool) -> Result<(), YamlKind>
@@ -30,39 +27,19 @@ pub(crate) fn check_alias(anchors: &AnchorList<'_>, name: &str, ended: bool) -> 
     }
 }
 
-/// Whether what stands on a line is in order, as far as the anchors alone tell it.
-fn check_content(anchors: &AnchorList<'_>, content: &Content<'_>) -> Result<(), YamlKind>
-    ensures { Agrees (λ u. u) result (parts.looked_up (anchors_view anchors.now.anchors.items)
-        (content_view content.now)) }
-{
-    match content {
-        Content::Alias(name, ended) => check_alias(anchors, name, *ended),
-        Content::Faulty(kind) => Err(*kind),
-        _ => Ok(()),
-    }
-}
-
 /// Whether what is behind a word is in order, as far as the anchors alone tell it.
 fn check_shape(anchors: &AnchorList<'_>, shape: &Shape<'_>) -> Result<(), YamlKind>
     ensures { Agrees (λ u. u) result (parts.looked_up (anchors_view anchors.now.anchors.items)
         (parts.own_content (shape_view shape.now))) }
 {
     match shape {
-        Shape::Key(_, _, content) => check_content(anchors, content),
-        Shape::Leaf(content) => check_content(anchors, content),
+        Shape::Key(_, _, content) | Shape::Leaf(content) => match content {
+            Content::Alias(name, ended) => check_alias(anchors, name, *ended),
+            Content::Faulty(kind) => Err(*kind),
+            _ => Ok(()),
+        },
         Shape::Refused(kind) => Err(*kind),
         Shape::Dash(_) => Ok(()),
-    }
-}
-
-/// Whether words may stand below this one.
-fn check_opener(head: &Head<'_>) -> Result<(), YamlKind>
-    ensures { Agrees (λ u. u) result (check (opens_block (head_view head.now).sort) Unsupported) }
-{
-    if head.sort.opens_block() {
-        Ok(())
-    } else {
-        Err(YamlKind::Unsupported)
     }
 }
 
@@ -78,6 +55,8 @@ pub(crate) fn check_placed(stack: &OpenBlocks<'_>, word: &Word<'_>) -> Result<()
     if !is_below(&top.head, word) {
         return Ok(());
     }
-    check_opener(&top.head)?;
+    if !top.head.sort.opens_block() {
+        return Err(YamlKind::Unsupported);
+    }
     check_shape(&stack.anchors, &word.shape)
 }

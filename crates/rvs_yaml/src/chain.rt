@@ -82,29 +82,8 @@ fn place_at(blocks: &[Open<'_>], first: usize, end: usize, line: u64) -> usize
     low
 }
 
-/// The place where the key may be taken, if it came below the map at `first`.
-fn place_of(
-    blocks: &[Open<'_>],
-    first: usize,
-    end: usize,
-    arrivals: Option<&Arrivals>,
-    key: &str,
-) -> usize
-    requires some { first < end }
-    requires inside { end ≤ length blocks.now }
-    ensures above { first ≤ result }
-    ensures below { result < end }
-{
-    let Some(arrivals) = arrivals else {
-        return first;
-    };
-    match arrivals.lines.get(key) {
-        Some(line) => place_at(blocks, first, end, *line),
-        None => first,
-    }
-}
-
-/// Whether a key is known to be taken in one of the blocks from `first` to `end`.
+/// Whether a key is known to be taken in one of the blocks from `first` to `end`: in the first, or
+/// in the one in which it came below that, if it did.
 pub(crate) fn is_taken_around(
     blocks: &[Open<'_>],
     first: usize,
@@ -121,7 +100,13 @@ pub(crate) fn is_taken_around(
     if is_taken_in(&blocks[first].block.done, key) {
         return true;
     }
-    let place = place_of(blocks, first, end, arrivals, key);
+    let Some(arrivals) = arrivals else {
+        return false;
+    };
+    let Some(line) = arrivals.lines.get(key) else {
+        return false;
+    };
+    let place = place_at(blocks, first, end, *line);
     is_taken_in(&blocks[place].block.done, key)
 }
 

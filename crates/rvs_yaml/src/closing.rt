@@ -6,12 +6,11 @@ ghost use Rattle.rvs_yaml_text.specs.Word.{opens_block};
 ghost use Rattle.rvs_yaml_text.specs.WordView.{head_view};
 ghost use Rattle.rvs_yaml.specs.Front as spec;
 ghost use Rattle.rvs_yaml.specs.Gives.{Gives};
-ghost use Rattle.rvs_yaml.specs.StackView.{own_view, stack_view, open_blocks};
+ghost use Rattle.rvs_yaml.specs.StackView.{own_view, stack_view};
 
 use crate::open::{Block, Open};
-use crate::open_blocks::OpenBlocks;
-use crate::stack::{closed_value, into_blocks, own_value};
-use rvs_fault::Fault;
+use crate::stack::{closed_value, own_value};
+use rvs_base::Fault;
 use rvs_tree::{Value, scalar_value};
 use rvs_yaml_text::YamlKind;
 use std::alloc::Global;
@@ -33,15 +32,11 @@ fn closed_blocks(
     Ok(value)
 }
 
-/// The value of the lines so far. It takes the blocks, so that nothing is held twice.
-pub(crate) fn into_value(alloc: Global, stack: OpenBlocks<'_>) -> Result<Value, Fault<YamlKind>>
-    ensures { Gives value_view result (spec.front_value (open_blocks stack.entry)) }
-{
-    closed_stack(alloc, into_blocks(stack))
-}
-
-/// The value of these blocks.
-fn closed_stack(alloc: Global, mut blocks: Vec<Open<'_>>) -> Result<Value, Fault<YamlKind>>
+/// The value of these blocks. It takes them, so that nothing is held twice.
+pub(crate) fn closed_stack(
+    alloc: Global,
+    mut blocks: Vec<Open<'_>>,
+) -> Result<Value, Fault<YamlKind>>
     ensures { Gives value_view result (spec.front_value (stack_view blocks.entry.items)) }
 {
     let Some(top) = blocks.pop() else {

@@ -7,7 +7,7 @@ ghost use Rattle.rvs_tree.specs.ValueView.{value_view};
 ghost use Rattle.rvs_yaml_text.specs.Tokens.{tokens_of};
 ghost use Rattle.rvs_yaml_text.specs.Word as word_spec;
 ghost use Rattle.rvs_yaml_text.specs.WordView.{bracket_view, content_view, shape_view};
-ghost use Rattle.rvs_yaml.specs.FillView.{flow_view, content_parts, shape_parts};
+ghost use Rattle.rvs_yaml.specs.FillView.{content_parts, shape_parts};
 ghost use Rattle.rvs_yaml.specs.Filling as spec;
 ghost use Rattle.rvs_yaml.specs.Flow.{flow_value};
 ghost use Rattle.rvs_yaml.specs.Front.{ends};
@@ -25,8 +25,7 @@ use crate::open::Open;
 use crate::open_blocks::OpenBlocks;
 use crate::stack::put_own;
 use crate::taking::boxed;
-use rvs_base::beside;
-use rvs_fault::Fault;
+use rvs_base::{Fault, beside, release};
 use rvs_tree::{DEEP, Value};
 use rvs_yaml_text::{Bracket, Content, Shape, YamlKind};
 use std::alloc::Global;
@@ -67,13 +66,8 @@ fn check_thin(
     check_nodes(blocks, thin, height)
 }
 
-/// Whether an alias may stand in the text.
-fn has_star(text: &str) -> bool {
-    text.as_bytes().contains(&b'*')
-}
-
 /// Refuses a line for its flow collection or its front, as far as small values in the place of
-/// those of aliases tell it. Without aliases they don't.
+/// those of aliases tell it. Without aliases, which begin with a star, they don't.
 fn check_paid(
     alloc: Global,
     stack: &OpenBlocks<'_>,
@@ -83,7 +77,7 @@ fn check_paid(
     ensures { Denies result
         (spec.filled (Some (bracket_view bracket, tokens_of text.now)) (open_blocks stack.now)) }
 {
-    if !has_star(text) {
+    if !text.as_bytes().contains(&b'*') {
         return Ok(());
     }
     let blocks = stack.blocks.as_slice();
@@ -98,28 +92,13 @@ fn check_paid(
         anchors: &stack.anchors,
     };
     let thin = thin_flow_value(alloc, &known, top.head.line, bracket, text)?;
-    check_thin(alloc, &known, blocks, &thin, text)
+    let checked = check_thin(alloc, &known, blocks, &thin, text);
+    release(thin);
+    checked
 }
 
-/// The value of a flow collection, where these anchors are complete.
-fn value_with(
-    alloc: Global,
-    anchors: &AnchorList<'_>,
-    line: u64,
-    bracket: Bracket,
-    text: &str,
-) -> Result<Value, Fault<YamlKind>>
-    ensures { Gives value_view result (flow_value (anchors_view anchors.now.anchors.items) line
-        (bracket_view bracket) (tokens_of text.now)) }
-{
-    let known = Known {
-        poor: false,
-        anchors,
-    };
-    flow_value(alloc, &known, line, bracket, text)
-}
-
-/// The same as that of the last word on this line.
+/// The value of a flow collection as that of the last word on this line, where these anchors are
+/// complete.
 fn own_with(
     alloc: Global,
     anchors: &AnchorList<'_>,
@@ -130,13 +109,17 @@ fn own_with(
     ensures { Gives (own_view line) result (flow_value (anchors_view anchors.now.anchors.items) line
         (bracket_view bracket) (tokens_of text.now)) }
 {
-    let own = value_with(alloc, anchors, line, bracket, text)?;
+    let known = Known {
+        poor: false,
+        anchors,
+    };
+    let own = flow_value(alloc, &known, line, bracket, text)?;
     Ok(Some(boxed(alloc, own)?))
 }
 
 /// Fills in the value of a flow collection as that of the last word. An alias is counted before
 /// what it stands for is taken.
-fn fill<'a>(
+pub(crate) fn fill<'a>(
     alloc: Global,
     stack: OpenBlocks<'a>,
     bracket: Bracket,
@@ -153,11 +136,8 @@ fn fill<'a>(
     let Some(top) = blocks.pop() else {
         return Ok(OpenBlocks { blocks, anchors });
     };
-    let Open {
-        block,
-        head,
-        own: _,
-    } = top;
+    let Open { block, head, own } = top;
+    release(own);
     let own = own_with(alloc, &anchors, head.line, bracket, text);
     put_own(blocks, anchors, block, head, own)
 }
@@ -201,20 +181,5 @@ pub(crate) fn hollow_shape<'a>(
         }
         Shape::Dash(anchor) => (Shape::Dash(anchor), None),
         Shape::Refused(kind) => (Shape::Refused(kind), None),
-    }
-}
-
-/// Fills in the value of a flow collection, where there is one.
-pub(crate) fn fill_flow<'a>(
-    alloc: Global,
-    stack: OpenBlocks<'a>,
-    flow: Option<(Bracket, &'a str)>,
-) -> Result<OpenBlocks<'a>, Fault<YamlKind>>
-    ensures { Passes open_blocks result
-        (spec.filled (flow_view flow.entry) (open_blocks stack.entry)) }
-{
-    match flow {
-        Some((bracket, text)) => fill(alloc, stack, bracket, text),
-        None => Ok(stack),
     }
 }

@@ -1,5 +1,5 @@
 // Reading flow collections from left to right.
-ghost use Rattle.std.specs.Prelude.{◌≡◌, ◌&&◌, ℕ, Bool, true, Ok};
+ghost use Rattle.std.specs.Prelude.{◌≡◌, ◌&&◌, ℕ, Bool, true};
 ghost use Rattle.rvs_tree.specs.Value as value_spec;
 ghost use Rattle.rvs_yaml.specs.Flow as spec;
 ghost use Rattle.rvs_yaml.specs.FlowSteps as steps_spec;
@@ -8,7 +8,7 @@ ghost use Rattle.rvs_yaml.specs.Anchors.{Anchors};
 ghost use Rattle.rvs_yaml.specs.Checks.{succeeds};
 ghost use Rattle.rvs_yaml.specs.Gives.{Agrees, Decides, Gives, FailsWith};
 ghost use Rattle.rvs_yaml.specs.StackView.{known_view};
-ghost use Rattle.rvs_tree.specs.ValueView.{value_view, written_view, entries_view};
+ghost use Rattle.rvs_tree.specs.ValueView.{value_view, entries_view};
 ghost use Rattle.rvs_yaml_text.specs.KeyView.{key_view};
 ghost use Rattle.rvs_yaml_text.specs.WordView.{bracket_view};
 ghost use Rattle.rvs_yaml_text.specs.TokenView.{token_view};
@@ -16,12 +16,11 @@ ghost use Rattle.rvs_yaml.specs.FlowView.{place_view, reading_view, levels_view}
 
 use crate::entry::entry_of;
 use crate::flow_places::{ends_with, may_close, may_go_on, may_open, may_take};
-use crate::flow_refusals::{colon_scalar_refused, cut_key_refused, is_new, refused, start_refused};
+use crate::flow_refusals::{colon_scalar_fault, cut_key_fault, is_new, refused, start_fault};
 use crate::known::Known;
 use crate::reading::{FlowState, Level, Pending, Reading};
-use crate::taking::{boxed, push};
-use rvs_base::{beside, release};
-use rvs_fault::Fault;
+use crate::taking::{boxed, pushed};
+use rvs_base::{Fault, beside, release};
 use rvs_tree::{
     EntryList, Value, ValueList, Written, list_value, map_value, scalar_value, thin_list_value,
     thin_map_value,
@@ -54,7 +53,7 @@ fn with_value(alloc: Global, place: FlowState, value: Value) -> Result<FlowState
         }
         _ => {
             release(value);
-            refused(place, Fault::Refused(YamlKind::BadFlow))
+            refused(Fault::Refused(YamlKind::BadFlow), place)
         },
     }
 }
@@ -66,7 +65,7 @@ fn with_comma(place: FlowState) -> Result<FlowState, Fault<YamlKind>>
     match place {
         FlowState::BehindMember(list) => Ok(FlowState::Member(list)),
         FlowState::BehindEntry(list) => Ok(FlowState::KeyPlace(list)),
-        _ => Err(Fault::Refused(YamlKind::BadFlow)),
+        _ => refused(Fault::Refused(YamlKind::BadFlow), place),
     }
 }
 
@@ -82,16 +81,18 @@ fn with_key(alloc: Global, place: FlowState, key: Key) -> Result<FlowState, Faul
             if is_new(&list, &key) {
                 Ok(FlowState::EntryValue(boxed(alloc, Pending { list, key })?))
             } else {
+                release(list);
+                release(key);
                 Err(Fault::Refused(YamlKind::DuplicateKey))
             }
         }
         FlowState::Member(_) | FlowState::EntryValue(_) => {
             release(key);
-            refused(place, Fault::Refused(YamlKind::BadScalar))
+            refused(Fault::Refused(YamlKind::BadScalar), place)
         },
         _ => {
             release(key);
-            refused(place, Fault::Refused(YamlKind::BadFlow))
+            refused(Fault::Refused(YamlKind::BadFlow), place)
         },
     }
 }
@@ -134,7 +135,7 @@ fn with_alias(
 {
     match alias_here(alloc, known, &place, name) {
         Ok(value) => with_value(alloc, place, value),
-        Err(fault) => refused(place, fault),
+        Err(fault) => refused(fault, place),
     }
 }
 
@@ -170,16 +171,26 @@ fn with_token(
 {
     match token {
         Token::Comma => with_comma(place),
-        Token::Colon => start_refused(place, YamlKind::BadScalar),
+        Token::Colon => refused(
+            Fault::Refused(start_fault(&place, YamlKind::BadScalar)),
+            place,
+        ),
         Token::Scalar(key) => with_scalar(alloc, line, place, key),
         Token::Keyed(key) => with_key(alloc, place, key),
-        Token::CutKey(key) => cut_key_refused(place, key),
-        Token::ColonScalar(byte) => colon_scalar_refused(place, byte),
+        Token::CutKey(key) => {
+            let fault = Fault::Refused(cut_key_fault(&place, &key));
+            release(key);
+            refused(fault, place)
+        }
+        Token::ColonScalar(byte) => refused(
+            Fault::Refused(colon_scalar_fault(&place, byte)),
+            place,
+        ),
         Token::Alias(name) => with_alias(alloc, known, place, name),
-        Token::Fault(kind) => start_refused(place, kind),
-        Token::LateColon => refused(place, Fault::Refused(YamlKind::Unsupported)),
+        Token::Fault(kind) => refused(Fault::Refused(start_fault(&place, kind)), place),
+        Token::LateColon => refused(Fault::Refused(YamlKind::Unsupported), place),
         Token::Opening(_) | Token::Closing(_) => {
-            refused(place, Fault::Refused(YamlKind::BadFlow))
+            refused(Fault::Refused(YamlKind::BadFlow), place)
         }
     }
 }
@@ -240,38 +251,24 @@ fn closed_by(
     }
 }
 
-/// Whether the entry that was read last can be merged, where it is to be.
-fn fits(place: &FlowState) -> bool
-    ensures { result ≡ spec.fits (place_view place.now) }
-{
-    match place {
-        FlowState::BehindEntry(list) => last_fits(list.entries.as_slice()),
-        _ => true,
-    }
-}
-
 /// Whether the last of these entries can be merged, where it is to be.
 fn last_fits(entries: &[Written]) -> bool
     ensures { result ≡ spec.last_fits (entries_view entries.now) }
 {
     match entries {
         [] => true,
-        [.., last] => entry_fits(last),
+        [.., last] => !last.merges || last.value.mergeable,
     }
-}
-
-/// Whether the entry can be merged, where it is to be.
-fn entry_fits(written: &Written) -> bool
-    ensures { result ≡ spec.entry_fits (written_view written.now) }
-{
-    !written.merges || written.value.mergeable
 }
 
 /// Whether all that merges can be merged, with the entry that was read last.
 fn still_good(good: bool, place: &FlowState) -> bool
     ensures { result ≡ (good && spec.fits (place_view place.now)) }
 {
-    good && fits(place)
+    match place {
+        FlowState::BehindEntry(list) => good && last_fits(list.entries.as_slice()),
+        _ => good,
+    }
 }
 
 /// What is read once a value is whole.
@@ -306,7 +303,7 @@ fn opened(
     alloc: Global,
     good: bool,
     level: Level,
-    mut outer: Vec<Level>,
+    outer: Vec<Level>,
     bracket: Bracket,
 ) -> Result<Reading, Fault<YamlKind>>
     ensures given { Gives reading_view result
@@ -317,11 +314,11 @@ fn opened(
         (place_view level.place) (levels_view outer.items) (bracket_view bracket)) }
 {
     if let Err(kind) = may_open(&level.place) {
-        drop(level);
-        drop(outer);
+        release(level);
+        release(outer);
         return Err(Fault::Refused(kind));
     }
-    push(&mut outer, level)?;
+    let outer = pushed(outer, level)?;
     Ok(Reading::Inside(
         good,
         Level {
@@ -343,29 +340,6 @@ fn may_end(level: &Level, outer: &[Level], bracket: Bracket) -> Result<(), YamlK
     may_go_on(outer)
 }
 
-/// What is read behind a closing bracket that may stand here.
-fn ended(
-    alloc: Global,
-    poor: bool,
-    line: u64,
-    good: bool,
-    level: Level,
-    outer: Vec<Level>,
-    bracket: Bracket,
-) -> Result<Reading, Fault<YamlKind>>
-    requires { succeeds (parts.closed poor line good (bracket_view level.bracket)
-        (place_view level.place) (levels_view outer.items) (bracket_view bracket)) ≡ Ok tt }
-    ensures given { Gives reading_view result
-        (parts.closed poor line good (bracket_view level.bracket)
-        (place_view level.place) (levels_view outer.items) (bracket_view bracket)) }
-    ensures refused { FailsWith result
-        (parts.closed poor line good (bracket_view level.bracket)
-        (place_view level.place) (levels_view outer.items) (bracket_view bracket)) }
-{
-    let value = closed_by(alloc, poor, line, level.place)?;
-    into(alloc, value, good, outer)
-}
-
 /// What is read behind a closing bracket.
 fn closed(
     alloc: Global,
@@ -384,10 +358,13 @@ fn closed(
         (place_view level.place) (levels_view outer.items) (bracket_view bracket)) }
 {
     match may_end(&level, outer.as_slice(), bracket) {
-        Ok(()) => ended(alloc, poor, line, good, level, outer, bracket),
+        Ok(()) => {
+            let value = closed_by(alloc, poor, line, level.place)?;
+            into(alloc, value, good, outer)
+        }
         Err(kind) => {
-            drop(level);
-            drop(outer);
+            release(level);
+            release(outer);
             Err(Fault::Refused(kind))
         },
     }
@@ -424,35 +401,11 @@ fn moved(
     ))
 }
 
-/// What is read behind one token more, where a collection is open.
-fn inside(
-    alloc: Global,
-    known: &Known<'_, '_>,
-    line: u64,
-    good: bool,
-    level: Level,
-    outer: Vec<Level>,
-    token: Token<'_>,
-) -> Result<Reading, Fault<YamlKind>>
-    ensures given { Gives reading_view result (steps_spec.flow_step known.now.poor
-        (known_view known.now) line (steps_spec.open_in good (bracket_view level.bracket)
-        (place_view level.place) (levels_view outer.items)) (token_view token.entry)) }
-    ensures refused { FailsWith result (steps_spec.flow_step known.now.poor
-        (known_view known.now) line (steps_spec.open_in good (bracket_view level.bracket)
-        (place_view level.place) (levels_view outer.items)) (token_view token.entry)) }
-{
-    match token {
-        Token::Opening(bracket) => opened(alloc, good, level, outer, bracket),
-        Token::Closing(bracket) => closed(alloc, known.poor, line, good, level, outer, bracket),
-        _ => moved(alloc, known, line, good, level, outer, token),
-    }
-}
-
 /// Refuses a token behind a whole collection.
-fn behind_whole(token: Token<'_>) -> Result<Reading, Fault<YamlKind>>
+fn behind_whole(token: &Token<'_>) -> Result<Reading, Fault<YamlKind>>
     ensures { (poor : Bool) → (known : Anchors) → (line : ℕ) → (v : value_spec.Value)
         → (good : Bool) → Decides reading_view result (steps_spec.flow_step poor known line
-        (steps_spec.whole (v, good)) (token_view token.entry)) }
+        (steps_spec.whole (v, good)) (token_view token.now)) }
 {
     match token {
         Token::LateColon => Err(Fault::Refused(YamlKind::Unsupported)),
@@ -476,12 +429,16 @@ pub(crate) fn flow_step(
         line (reading_view reading) (token_view token.entry)) }
 {
     match reading {
-        Reading::Inside(good, level, outer) => inside(
-            alloc, known, line, good, level, outer, token,
-        ),
+        Reading::Inside(good, level, outer) => match token {
+            Token::Opening(bracket) => opened(alloc, good, level, outer, bracket),
+            Token::Closing(bracket) => closed(alloc, known.poor, line, good, level, outer, bracket),
+            _ => moved(alloc, known, line, good, level, outer, token),
+        },
         Reading::Whole(value, _) => {
-            drop(value);
-            behind_whole(token)
+            release(value);
+            let told = behind_whole(&token);
+            release(token);
+            told
         }
     }
 }

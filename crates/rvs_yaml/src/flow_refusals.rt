@@ -3,13 +3,12 @@ ghost use Rattle.std.specs.Prelude.{◌≡◌, Err, if◌then◌else◌};
 ghost use Rattle.rvs_yaml.specs.Flow as spec;
 ghost use Rattle.rvs_yaml.specs.FlowParts as parts;
 ghost use Rattle.rvs_yaml_text.specs.declared.kind.YamlKind.TheVariants.{BadScalar, BadFlow};
-ghost use Rattle.rvs_yaml.specs.Gives.{Decides};
 ghost use Rattle.rvs_tree.specs.ValueView.{entries_view};
 ghost use Rattle.rvs_yaml_text.specs.KeyView.{key_view};
 ghost use Rattle.rvs_yaml.specs.FlowView.{place_view};
 
 use crate::reading::FlowState;
-use rvs_fault::Fault;
+use rvs_base::{Fault, release};
 use rvs_tree::EntryList;
 use rvs_yaml_text::{Key, YamlKind};
 
@@ -21,7 +20,7 @@ pub(crate) fn is_new(list: &EntryList, key: &Key) -> bool
 }
 
 /// Why a quoted scalar with a colon and then more text is refused.
-fn cut_key_fault(place: &FlowState, key: &Key) -> YamlKind
+pub(crate) fn cut_key_fault(place: &FlowState, key: &Key) -> YamlKind
     ensures { spec.with_cut_key (place_view place.now) (key_view key.now) ≡ Err result }
 {
     match place {
@@ -38,7 +37,7 @@ fn cut_key_fault(place: &FlowState, key: &Key) -> YamlKind
 }
 
 /// Why a plain scalar that ends in a colon is refused, where this byte ends it.
-fn colon_scalar_fault(place: &FlowState, byte: u8) -> YamlKind
+pub(crate) fn colon_scalar_fault(place: &FlowState, byte: u8) -> YamlKind
     ensures { spec.with_colon_scalar (place_view place.now) byte ≡ Err result }
 {
     match place {
@@ -60,7 +59,7 @@ fn bad_unless(in_place: bool) -> YamlKind
 }
 
 /// The fault of what begins here, which is the scalar's where one could begin.
-fn start_fault(place: &FlowState, kind: YamlKind) -> YamlKind
+pub(crate) fn start_fault(place: &FlowState, kind: YamlKind) -> YamlKind
     ensures { spec.with_fault (place_view place.now) kind ≡ Err result }
 {
     match place {
@@ -71,34 +70,11 @@ fn start_fault(place: &FlowState, kind: YamlKind) -> YamlKind
 
 /// Refuses what comes at this place, which is let go.
 pub(crate) fn refused(
-    _place: FlowState,
     fault: Fault<YamlKind>,
+    place: FlowState,
 ) -> Result<FlowState, Fault<YamlKind>>
     ensures { result ≡ Err fault }
 {
+    release(place);
     Err(fault)
-}
-
-/// Refuses what begins here, and lets the place go.
-pub(crate) fn start_refused(place: FlowState, kind: YamlKind) -> Result<FlowState, Fault<YamlKind>>
-    ensures { Decides place_view result (spec.with_fault (place_view place) kind) }
-{
-    let fault = Fault::Refused(start_fault(&place, kind));
-    refused(place, fault)
-}
-
-/// Refuses a quoted scalar with a colon and then more text, and lets the place go.
-pub(crate) fn cut_key_refused(place: FlowState, key: Key) -> Result<FlowState, Fault<YamlKind>>
-    ensures { Decides place_view result (spec.with_cut_key (place_view place) (key_view key)) }
-{
-    let fault = Fault::Refused(cut_key_fault(&place, &key));
-    refused(place, fault)
-}
-
-/// Refuses a plain scalar that ends in a colon, where this byte ends it, and lets the place go.
-pub(crate) fn colon_scalar_refused(place: FlowState, byte: u8) -> Result<FlowState, Fault<YamlKind>>
-    ensures { Decides place_view result (spec.with_colon_scalar (place_view place) byte) }
-{
-    let fault = Fault::Refused(colon_scalar_fault(&place, byte));
-    refused(place, fault)
 }

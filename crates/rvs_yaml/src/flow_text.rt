@@ -1,6 +1,6 @@
 // The text of flow collections.
-ghost use Rattle.std.specs.Prelude.{◌≡◌, ◌<◌, true, false, length, drop, slice_index};
-ghost use Rattle.rvs_fault.specs.Answers.{seen};
+ghost use Rattle.std.specs.Prelude.{◌≡◌, ◌<◌, true, false, length};
+ghost use Rattle.rvs_base.specs.Answers.{seen};
 ghost use Rattle.rvs_yaml_text.specs.Tokens as spec;
 ghost use Rattle.rvs_yaml.specs.Flow as flow_spec;
 ghost use Rattle.rvs_yaml.specs.TokenParts as parts;
@@ -10,17 +10,14 @@ ghost use Rattle.rvs_yaml.specs.Gives.{Gives};
 ghost use Rattle.rvs_yaml.specs.StackView.{all_known, known_view};
 ghost use Rattle.rvs_tree.specs.ValueView.{value_view};
 ghost use Rattle.rvs_yaml_text.specs.WordView.{bracket_view};
-ghost use Rattle.rvs_yaml_text.specs.TokenView.{token_view};
-ghost use Rattle.rvs_yaml.specs.FlowSteps as steps_spec;
-ghost use Rattle.rvs_yaml.specs.FlowView.{reading_view, flowing_view};
+ghost use Rattle.rvs_yaml.specs.FlowView.{flowing_view};
 
 use crate::flow::{flow_end, flow_step, new_reading};
 use crate::known::Known;
-use crate::reading::{Flowing, Reading};
-use rvs_base::beside;
-use rvs_fault::Fault;
+use crate::reading::Flowing;
+use rvs_base::{Fault, beside};
 use rvs_tree::Value;
-use rvs_yaml_text::{Bracket, Token, YamlKind, behind_first, closes, next_token, starts_with};
+use rvs_yaml_text::{Bracket, YamlKind, behind_first, closes, next_token, starts_with};
 use std::alloc::Global;
 
 /// Whether nothing or a comment comes next.
@@ -28,51 +25,6 @@ pub(crate) fn is_flow_end(spaced: bool, bytes: &[u8]) -> bool
     ensures { result ≡ parts.is_flow_end spaced bytes.now }
 {
     bytes.is_empty() || (starts_with(b'#', bytes) && spaced)
-}
-
-/// What is read behind a space.
-fn behind_space<'a>(flowing: Flowing<'a>) -> Flowing<'a>
-    requires some { 0 < length flowing.rest.now }
-    requires ascii { slice_index flowing.rest.now 0 < 128 }
-    ensures { flowing_view result ≡ parts.flowing (reading_view flowing.entry.reading)
-        flowing.entry.closed true (drop 1 flowing.entry.rest.now) }
-{
-    let Flowing {
-        reading,
-        closed,
-        spaced: _,
-        rest,
-    } = flowing;
-    Flowing {
-        reading,
-        closed,
-        spaced: true,
-        rest: behind_first(rest),
-    }
-}
-
-/// What is read behind this token, with this text behind it.
-fn behind_token<'a>(
-    alloc: Global,
-    known: &Known<'_, '_>,
-    line: u64,
-    reading: Reading,
-    token: Token<'a>,
-    behind: &'a str,
-) -> Result<Flowing<'a>, Fault<YamlKind>>
-    ensures { Gives flowing_view result (seen
-        (λ r. parts.flowing r (spec.closes (token_view token.entry)) false behind.entry.now)
-        (steps_spec.flow_step known.now.poor (known_view known.now) line (reading_view reading)
-        (token_view token.entry))) }
-{
-    let closed = closes(&token);
-    let reading = flow_step(alloc, known, line, reading, token)?;
-    Ok(Flowing {
-        reading,
-        closed,
-        spaced: false,
-        rest: behind,
-    })
 }
 
 /// Reads one space or one token more.
@@ -86,12 +38,29 @@ fn next_flowing<'a>(
     ensures { Gives flowing_view result (parts.next_flowing known.now.poor (known_view known.now)
         line (flowing_view flowing.entry)) }
 {
-    if starts_with(b' ', flowing.rest.as_bytes()) {
-        return Ok(behind_space(flowing));
+    let Flowing {
+        reading,
+        closed,
+        spaced: _,
+        rest,
+    } = flowing;
+    if starts_with(b' ', rest.as_bytes()) {
+        return Ok(Flowing {
+            reading,
+            closed,
+            spaced: true,
+            rest: behind_first(rest),
+        });
     }
-    let token = next_token(alloc, flowing.closed, flowing.rest);
-    let ((token, behind), flowing) = beside(token, flowing)?;
-    behind_token(alloc, known, line, flowing.reading, token, behind)
+    let ((token, behind), reading) = beside(next_token(alloc, closed, rest), reading)?;
+    let closed = closes(&token);
+    let reading = flow_step(alloc, known, line, reading, token)?;
+    Ok(Flowing {
+        reading,
+        closed,
+        spaced: false,
+        rest: behind,
+    })
 }
 
 /// The value of a flow collection from behind its first bracket, or what stands for it.

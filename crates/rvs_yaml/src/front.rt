@@ -12,22 +12,21 @@ ghost use Rattle.rvs_yaml.specs.Parsed.{within_limits};
 ghost use Rattle.rvs_yaml.specs.Front as spec;
 ghost use Rattle.rvs_yaml.specs.Reach.{KeepsDepth};
 ghost use Rattle.rvs_yaml.specs.Gives.{Decides, Gives, FailsWith};
-ghost use Rattle.rvs_fault.specs.declared.faults.Fault.TheVariants.{NoMemory};
+ghost use Rattle.rvs_base.specs.declared.fault.Fault.TheVariants.{NoMemory};
 ghost use Rattle.rvs_yaml.specs.Sketched.{IsSketch, Brings, SketchedAs};
 ghost use Rattle.rvs_tree.specs.TreeView.{view};
-ghost use Rattle.rvs_yaml.specs.StackView.{own_view, done_view, open_view, stack_view};
+ghost use Rattle.rvs_yaml.specs.StackView.{done_view, open_view, stack_view};
 ghost use Rattle.rvs_tree.specs.ValueView.{value_view, values_view, entries_view, written_view};
 ghost use Rattle.rvs_yaml_text.specs.KeyView.{key_view};
 
 use crate::arrivals::Arrivals;
 use crate::entry::entry_of;
+use crate::keys::check_merge;
 use crate::open::{Block, Done, Open};
 use crate::reach::may_be_deep;
 use crate::reading::Pending;
 use crate::sketch::Sketch;
-use crate::stack::check_merge;
-use rvs_base::{beside, release};
-use rvs_fault::Fault;
+use rvs_base::{Fault, beside, release};
 use rvs_tree::{
     DEEP, EntryList, Tree, Value, ValueList, Written, into_tree, list_value, map_value, plus,
     scalar_value, shared_value, text_nodes,
@@ -173,17 +172,6 @@ fn entry_sketch(
     Ok(map_sketch(entries, key, last, deepest))
 }
 
-/// What is known of a map with its open entry.
-fn pending_sketch(pending: &Pending, last: &Sketch) -> Result<Sketch, YamlKind>
-    ensures { (line : ℕ) → (v : value_spec.Value) → IsSketch v last.now → SketchedAs result
-        (parts.closed_value
-        (done_entries (entries_view pending.now.list.entries.items) (key_view pending.now.key)) line
-        v) }
-{
-    let Pending { list, key } = pending;
-    entry_sketch(list, key, last, brought_depth(key, last))
-}
-
 /// What is known of a block with its open member.
 fn closed_sketch(block: &Block, last: Sketch) -> Result<Sketch, YamlKind>
     ensures { (v : value_spec.Value) → IsSketch v last
@@ -191,19 +179,12 @@ fn closed_sketch(block: &Block, last: Sketch) -> Result<Sketch, YamlKind>
 {
     match &block.done {
         Done::Items(list) => Ok(list_sketch(list, &last)),
-        Done::Entries(pending) => pending_sketch(pending, &last),
+        Done::Entries(pending) => {
+            let Pending { list, key } = &**pending;
+            entry_sketch(list, key, &last, brought_depth(key, &last))
+        }
         Done::Alone => Ok(last),
     }
-}
-
-/// What is known of a map whose open entry has this value.
-fn own_entry_sketch(entries: &EntryList, key: &Key, own: &Value) -> Result<Sketch, YamlKind>
-    ensures { (line : ℕ) → SketchedAs result (parts.closed_value
-        (done_entries (entries_view entries.now.entries.items) (key_view key.now)) line
-        (value_view own.now)) }
-{
-    let deepest = entries.brought(key.merges, own);
-    entry_sketch(entries, key, &sketch_of(own), deepest)
 }
 
 /// What is known of a block whose open member is this value.
@@ -212,7 +193,11 @@ fn leaf_sketch(block: &Block, own: &Value) -> Result<Sketch, YamlKind>
         (parts.closed_value (done_view block.now.done) block.now.line (value_view own.now)) }
 {
     match &block.done {
-        Done::Entries(pending) => own_entry_sketch(&pending.list, &pending.key, own),
+        Done::Entries(pending) => {
+            let Pending { list, key } = &**pending;
+            let deepest = list.brought(key.merges, own);
+            entry_sketch(list, key, &sketch_of(own), deepest)
+        }
         _ => closed_sketch(block, sketch_of(own)),
     }
 }
@@ -240,13 +225,7 @@ fn sketch_front(blocks: &[Open<'_>]) -> Result<Sketch, YamlKind>
         return Ok(empty_sketch());
     };
     let first = top_sketch(top)?;
-    let mut sketch = first;
-    let mut i = blocks.len() - 1;
-    while i > 0 {
-        i -= 1;
-        sketch = closed_sketch(&blocks[i].block, sketch)?;
-    }
-    Ok(sketch)
+    sketch_with(&blocks[..blocks.len() - 1], first)
 }
 
 /// What is known of the tree of the lines so far, where this is known of the last word.
@@ -268,19 +247,11 @@ fn own_value(alloc: Global, top: &Open<'_>) -> Result<Value, AllocError>
     ensures { IfOk result (λ v. value_view v ≡ spec.own_value (open_view top.now)) }
 {
     if top.head.sort.opens_block() {
-        scalar_value(alloc, String::new(alloc), top.head.line)
-    } else {
-        copied_own(alloc, top.head.line, &top.own)
+        return scalar_value(alloc, String::new(alloc), top.head.line);
     }
-}
-
-/// What a word on this line is by itself.
-fn copied_own(alloc: Global, line: u64, own: &Option<Box<Value>>) -> Result<Value, AllocError>
-    ensures { IfOk result (λ v. value_view v ≡ own_view line own.now) }
-{
-    match own {
+    match &top.own {
         Some(value) => shared_value(value),
-        None => scalar_value(alloc, String::new(alloc), line),
+        None => scalar_value(alloc, String::new(alloc), top.head.line),
     }
 }
 

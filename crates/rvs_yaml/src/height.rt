@@ -9,6 +9,7 @@ ghost use Rattle.rvs_yaml.specs.TokenParts.{is_flow_end};
 use crate::flow_text::is_flow_end;
 use crate::known::Known;
 use crate::reading::Scan;
+use rvs_base::release;
 use rvs_yaml_text::{Token, behind_first, closes, next_token, starts_with};
 use std::alloc::{AllocError, Global};
 
@@ -89,13 +90,15 @@ fn next_scan<'a>(
         });
     }
     let (token, behind) = next_token(alloc, closed, rest)?;
-    Ok(Scan {
+    let next = Scan {
         level: level_behind(level, &token),
         reached: reached.max(reach(known, level, &token)),
         closed: closes(&token),
         spaced: false,
         rest: behind,
-    })
+    };
+    release(token);
+    Ok(next)
 }
 
 /// A bound on the depth of a flow collection, from behind its first bracket. From 33 on depths are

@@ -1,5 +1,5 @@
 // The anchors that are known at a place.
-ghost use Rattle.std.specs.Prelude.{◌≡◌, ◌≤◌, ℕ, min, option_map, IfOk, IfSome};
+ghost use Rattle.std.specs.Prelude.{◌≡◌, ◌≤◌, ℕ, min, IfOk};
 ghost use Rattle.rvs_yaml.specs.Anchors as spec;
 ghost use Rattle.rvs_yaml.specs.Gives.{Gives, FailsWith};
 ghost use Rattle.rvs_yaml.specs.Heights.{found_depth};
@@ -9,7 +9,7 @@ ghost use Rattle.rvs_tree.specs.ValueView.{value_view};
 
 use crate::anchor_list::AnchorList;
 use crate::anchoring::find_anchor;
-use rvs_fault::Fault;
+use rvs_base::Fault;
 use rvs_tree::{Value, shared_value, thin_value};
 use rvs_yaml_text::YamlKind;
 use std::alloc::{AllocError, Global};
@@ -32,17 +32,7 @@ fn formed(alloc: Global, poor: bool, value: &Value) -> Result<Value, AllocError>
     }
 }
 
-impl<'a, 'b> Known<'a, 'b> {
-    /// The value of the latest anchor with this name.
-    fn find(&self, name: &str) -> Option<&'b Value>
-        ensures value { option_map (λ v. value_view v.now) result
-            ≡ spec.lookup name.now (all_known self.now) }
-        ensures kept { (most : ℕ) → IsKeptUpTo most self.now
-            → IfSome result (λ v. v.now.depth ≤ most) }
-    {
-        find_anchor(name, self.anchors)
-    }
-
+impl Known<'_, '_> {
     /// A bound on the depth of what an alias with this name stands for. From 33 on depths are
     /// counted as 33.
     pub(crate) fn alias_depth(&self, name: &str) -> u64
@@ -50,7 +40,7 @@ impl<'a, 'b> Known<'a, 'b> {
         ensures kept { (most : ℕ) → IsKeptUpTo most self.now → result ≤ most }
         ensures shallow { result ≤ 33 }
     {
-        match self.find(name) {
+        match find_anchor(name, self.anchors) {
             Some(value) => value.depth,
             None => 0,
         }
@@ -63,7 +53,7 @@ impl<'a, 'b> Known<'a, 'b> {
         ensures refused { FailsWith result
             (spec.known_alias (spec.lookup name.now (known_view self.now))) }
     {
-        match self.find(name) {
+        match find_anchor(name, self.anchors) {
             Some(value) => Ok(formed(alloc, self.poor, value)?),
             None => Err(Fault::Refused(YamlKind::UnknownAlias)),
         }

@@ -17,6 +17,7 @@ mod flow_refusals;
 mod flow_text;
 mod front;
 mod height;
+mod keys;
 mod known;
 mod line;
 mod next_entries;

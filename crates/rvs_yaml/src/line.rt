@@ -7,16 +7,17 @@ ghost use Rattle.rvs_yaml.specs.LineParts as parts;
 ghost use Rattle.rvs_yaml.specs.Reader.{Passes};
 ghost use Rattle.rvs_yaml.specs.StackView.{open_blocks};
 ghost use Rattle.rvs_yaml_text.specs.Word as word_spec;
-ghost use Rattle.rvs_yaml_text.specs.WordView.{word_view, shape_view};
+ghost use Rattle.rvs_yaml_text.specs.WordView.{word_view};
 
 use crate::arriving::filled;
 use crate::fill::hollow_shape;
 use crate::open_blocks::OpenBlocks;
 use crate::stack::step;
-use rvs_fault::Fault;
+use rvs_base::{Fault, beside};
+use rvs_text::without_spaces;
 use rvs_yaml_text::{
     Shape, Word, YamlKind, anchored_item, behind_first, ends_indicator, is_blank, item_name,
-    only_comment, shape_of, starts_with, without_spaces,
+    only_comment, shape_of, starts_with,
 };
 use std::alloc::{AllocError, Global};
 
@@ -49,23 +50,16 @@ fn last_word<'a>(
         ≡ parts.rest_words line item column text.now) }
 {
     if item && starts_with(b'&', text.as_bytes()) {
-        let shape = anchored_item(alloc, behind_first(text))?;
-        return Ok(word_with(line, column, shape));
+        return match anchored_item(alloc, behind_first(text))? {
+            Some(shape) => Ok(Some(Word {
+                line,
+                column,
+                shape,
+            })),
+            None => Ok(None),
+        };
     }
     plain_word(alloc, line, column, item, text)
-}
-
-/// A word with this shape, where there is one.
-fn word_with<'a>(line: u64, column: usize, shape: Option<Shape<'a>>) -> Option<Word<'a>>
-    ensures { parts.words_in (option_map word_view result)
-        ≡ text_spec.word_of line column (option_map shape_view shape.entry) }
-{
-    let shape = shape?;
-    Some(Word {
-        line,
-        column,
-        shape,
-    })
 }
 
 /// The last word of a line, where no anchor stands before it.
@@ -124,7 +118,8 @@ fn read_last<'a>(
     ensures { Passes open_blocks result (stack_spec.steps
         (open_blocks stack.entry) (parts.rest_words line item column text.now)) }
 {
-    let Some(word) = last_word(alloc, line, column, item, text)? else {
+    let (last, stack) = beside(last_word(alloc, line, column, item, text), stack)?;
+    let Some(word) = last else {
         return Ok(stack);
     };
     let Word {
@@ -145,18 +140,6 @@ fn read_last<'a>(
     filled(alloc, stack, flow)
 }
 
-/// A dash of an item, behind which this stands.
-fn dash<'a>(line: u64, column: usize, behind: &'a str) -> Word<'a>
-    ensures { word_view result
-        ≡ text_spec.word_at line column (word_spec.dash (text_spec.item_name behind.now)) }
-{
-    Word {
-        line,
-        column,
-        shape: Shape::Dash(item_name(behind)),
-    }
-}
-
 /// Reads the words of a line.
 fn read_words<'a>(
     alloc: Global,
@@ -170,7 +153,12 @@ fn read_words<'a>(
     let mut rest = without_spaces(text);
     let mut item = false;
     while let Some(behind) = behind_dash(rest) {
-        stack = step(alloc, stack, dash(line, text.len() - rest.len(), behind))?;
+        let dash = Word {
+            line,
+            column: text.len() - rest.len(),
+            shape: Shape::Dash(item_name(behind)),
+        };
+        stack = step(alloc, stack, dash)?;
         rest = without_spaces(behind);
         item = true;
     }

@@ -1,6 +1,5 @@
 // The next entry of a map.
-ghost use Rattle.std.specs.Prelude.{◌≡◌, ◌∷◌, ◌++◌, [], IfOk, Ok};
-ghost use Rattle.rvs_yaml.specs.Block as block_spec;
+ghost use Rattle.std.specs.Prelude.{◌≡◌, ◌∷◌, ◌++◌, [], IfOk};
 ghost use Rattle.rvs_yaml.specs.Entry.{written};
 ghost use Rattle.rvs_yaml.specs.Stack as spec;
 ghost use Rattle.rvs_yaml.specs.StepParts as parts;
@@ -12,10 +11,10 @@ ghost use Rattle.rvs_yaml_text.specs.KeyView.{key_view};
 ghost use Rattle.rvs_yaml_text.specs.WordView.{word_view};
 
 use crate::entry::entry_of;
+use crate::keys::{check_merge, key_at};
 use crate::open::Done;
 use crate::reading::Pending;
-use crate::stack::{check_merge, key_at};
-use rvs_fault::Fault;
+use rvs_base::{Fault, release};
 use rvs_tree::{EntryList, Value};
 use rvs_yaml_text::{Content, Key, Word, YamlKind};
 use std::alloc::{AllocError, Global};
@@ -36,43 +35,25 @@ pub(crate) fn next_entry<'a>(
         (key_view key) column (value_view value) (word_view word.entry)) }
 {
     match check_merge(&key, &value) {
-        Ok(()) => merged_entry(alloc, entries, key, column, value, word),
-        Err(kind) => {
-            drop(entries);
-            drop(key);
-            drop(value);
-            drop(word);
-            Err(Fault::Refused(kind))
+        Ok(()) => match key_at(column, &entries, &key, word) {
+            Ok((next, content)) => {
+                let done = with_entry(alloc, entries, key, value, next)?;
+                Ok((done, content))
+            }
+            Err(kind) => {
+                release(entries);
+                release(key);
+                release(value);
+                Err(Fault::Refused(kind))
+            }
         },
-    }
-}
-
-/// The same, where the value can be merged if its key merges.
-fn merged_entry<'a>(
-    alloc: Global,
-    entries: EntryList,
-    key: Key,
-    column: usize,
-    value: Value,
-    word: Word<'a>,
-) -> Result<(Done, Content<'a>), Fault<YamlKind>>
-    requires { block_spec.check_merge (key_view key) (value_view value) ≡ Ok tt }
-    ensures given { Gives done_content result (parts.next_entry (entries_view entries.entries.items)
-        (key_view key) column (value_view value) (word_view word.entry)) }
-    ensures refused { FailsWith result (parts.next_entry (entries_view entries.entries.items)
-        (key_view key) column (value_view value) (word_view word.entry)) }
-{
-    match key_at(column, &entries, &key, word) {
-        Ok((next, content)) => {
-            let done = with_entry(alloc, entries, key, value, next)?;
-            Ok((done, content))
+        Err(kind) => {
+            release(entries);
+            release(key);
+            release(value);
+            release(word);
+            Err(Fault::Refused(kind))
         }
-        Err(kind) => {
-            drop(entries);
-            drop(key);
-            drop(value);
-            Err(Fault::Refused(kind))
-        },
     }
 }
 

@@ -12,7 +12,7 @@ ghost use Rattle.rvs_yaml_text.specs.WordView.{content_view, bracket_view};
 use crate::beginning::check_alias;
 use crate::flow_text::flow_value;
 use crate::known::Known;
-use rvs_fault::Fault;
+use rvs_base::Fault;
 use rvs_tree::{Value, scalar_value};
 use rvs_yaml_text::{Content, YamlKind};
 use std::alloc::Global;

@@ -2,8 +2,7 @@
 ghost use Rattle.rvs_yaml.specs.Refusing.{refusal_text, refusal_view};
 
 use crate::refusal::YamlRefusal;
-use rvs_base::{NoMemory, Text};
-use rvs_fault::Refusal;
+use rvs_base::{NoMemory, Refusal, Text};
 use std::alloc::Global;
 
 impl Refusal for YamlRefusal {

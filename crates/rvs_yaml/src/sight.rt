@@ -1,10 +1,10 @@
 // How deep what the last word has brought is, as far as the keys around it leave it.
-ghost use Rattle.std.specs.Prelude.{◌≡◌, ◌≤◌, ◌<◌, [], ℕ, Bool, true, false, List, suc, max, min};
-ghost use Rattle.std.specs.Prelude.{string_bytes, slice_index_or, length, take, IfOk};
+ghost use Rattle.std.specs.Prelude.{◌≡◌, ◌≤◌, ◌<◌, [], ℕ, Bool, true, false, List, suc, min};
+ghost use Rattle.std.specs.Prelude.{slice_index_or, length, take, IfOk};
 ghost use Rattle.rvs_tree.specs.Shown as shown;
 ghost use Rattle.rvs_tree.specs.ShownView.{depths_view};
 ghost use Rattle.rvs_tree.specs.Value as value_spec;
-ghost use Rattle.rvs_tree.specs.Value.{has_key, scalar_value};
+ghost use Rattle.rvs_tree.specs.Value.{scalar_value};
 ghost use Rattle.rvs_tree.specs.ValueView.{value_view, entries_view};
 ghost use Rattle.rvs_yaml.specs.Around.{AreAround};
 ghost use Rattle.rvs_yaml.specs.Chain.{in_chain, chain_keys};
@@ -64,25 +64,6 @@ fn own_seen(alloc: Global, top: &Open<'_>) -> Result<Seen, AllocError>
     }
 }
 
-/// These and one more, unless its key is taken.
-fn with_pair(
-    mut kept: Vec<KeyDepth>,
-    pair: KeyDepth,
-    taken: bool,
-) -> Result<Vec<KeyDepth>, AllocError>
-    ensures { IfOk result (λ l. (T : List (List ℕ)) →
-        (taken ≡ true → has_key (string_bytes pair.key) T ≡ true) →
-        max (shown.visible (depths_view kept.items) T)
-        (shown.at_key (string_bytes pair.key) pair.depth T)
-        ≤ shown.visible (depths_view l.items) T) }
-{
-    if taken {
-        return Ok(kept);
-    }
-    kept.push(pair)?;
-    Ok(kept)
-}
-
 /// Those whose keys aren't known to be taken in the blocks from `first` to `end`.
 fn untaken(
     alloc: Global,
@@ -101,8 +82,10 @@ fn untaken(
 {
     let mut kept = Vec::new(alloc);
     for pair in depths {
-        let taken = is_taken_around(blocks, first, end, arrivals, pair.key.as_str());
-        kept = with_pair(kept, pair, taken)?;
+        if is_taken_around(blocks, first, end, arrivals, pair.key.as_str()) {
+            continue;
+        }
+        kept.push(pair)?;
     }
     Ok(kept)
 }

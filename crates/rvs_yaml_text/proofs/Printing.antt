@@ -5,7 +5,7 @@ use Rattle.std.specs.Prelude.{◌==◌, ◌||◌, if◌then◌else◌}
 use Rattle.std.proofs.lemmas.Bool.Decides.{nat_tests}
 use Rattle.rvs_yaml_text.specs.Word.{Key, Content, text, key_token, cut_key, scalar_token}
 use Rattle.rvs_yaml_text.specs.Scalar.{starts_with, only_comment}
-use Rattle.rvs_yaml_text.specs.Scalar.{without_spaces, single, quoted_name}
+use Rattle.rvs_yaml_text.specs.Scalar.{single, quoted_name}
 use Rattle.rvs_yaml_text.specs.Tokens.{FirstToken, is_punctuation}
 use Rattle.rvs_yaml_text.specs.Tokens.{quoted_token_before}
 use Rattle.rvs_yaml_text.specs.Printed.{doubled, QuotedReadsBack, KeysReadBack, ScalarsReadBack}
@@ -58,16 +58,13 @@ other : (b c : ℕ) → is_punctuation b ≡ true
     → (c == 44 || (c == 91 || (c == 93 || (c == 123 || c == 125)))) ≡ false → (b == c) ≡ false
 other b c h n = grind arith
 
-spaces-stop : (b : ℕ) (bs : List ℕ) → (b == 32) ≡ false → without_spaces (b ∷ bs) ≡ b ∷ bs
-spaces-stop b bs e = rw (e, without_spaces) refl
-
 punctuated : (name : List ℕ) (b : ℕ) (behind : List ℕ) → is_punctuation b ≡ true → (b == 58) ≡ false
     → quoted_token_before name (b ∷ behind) (b ∷ behind)
     ≡ (scalar_token (quoted_name name), b ∷ behind)
 punctuated name b behind p c = rw (c, quoted_token_before) (rw (p, quoted_token_before) refl)
 
 flow-scalars-back : FlowScalarsReadBack
-flow-scalars-back bytes b behind p = simp (quoted-back, other, spaces-stop, punctuated)
+flow-scalars-back bytes b behind p = simp (quoted-back, other, punctuated)
 
 pub printed-reads-back : PrintedReadsBack
 printed-reads-back =

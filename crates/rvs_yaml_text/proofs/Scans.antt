@@ -7,8 +7,8 @@ use Rattle.std.proofs.lemmas.List.{take_more}
 use Rattle.std.proofs.Common.{add-one, ◌-◌, length-drop, rules}
 use Rattle.std.proofs.lemmas.Bool.Decides.{nat_tests}
 use Rattle.std.specs.Prelude.{◌==◌, ◌&&◌}
-use Rattle.rvs_yaml_text.specs.Scalar.{Split, onto, trimmed, push_front, key_split, ends_indicator}
-use Rattle.rvs_yaml_text.specs.Scalar.{name_split, is_name_byte, without_spaces}
+use Rattle.rvs_yaml_text.specs.Scalar.{Split, onto, key_split, ends_indicator}
+use Rattle.rvs_yaml_text.specs.Scalar.{name_split, is_name_byte}
 
 -- a split with more text at its front
 abbrev pub onto_all : List ℕ → Split → Split
@@ -20,16 +20,6 @@ front_too xs p = (xs ++ p.0, p.1)
 pub onto_all-onto : (xs : List ℕ) (b : ℕ) (o : Split)
     → onto_all xs (onto b o) ≡ onto_all (xs ++ b ∷ []) o
 onto_all-onto xs b o = search (rules, append_assoc)
-
-pub trimmed-space : (xs : List ℕ) → trimmed (xs ++ 32 ∷ []) ≡ trimmed xs
-trimmed-space [] = refl
-trimmed-space (x ∷ xs) = ap (push_front x) (trimmed-space xs)
-
-pub trimmed-solid : (xs : List ℕ) (b : ℕ) → (b == 32) ≡ false
-    → trimmed (xs ++ b ∷ []) ≡ xs ++ b ∷ []
-trimmed-solid [] b h = rw h refl
-trimmed-solid (x ∷ []) b h = ap (push_front x) (trimmed-solid [] b h)
-trimmed-solid (x ∷ y ∷ xs) b h = ap (push_front x) (trimmed-solid (y ∷ xs) b h)
 
 pub drop-at : (bs : List ℕ) (i : ℕ) → i < length bs → drop i bs ≡ get_or bs i 0 ∷ drop (i + 1) bs
 drop-at bs i h = rw add-one (drop-cons bs i 0 h)
@@ -69,23 +59,6 @@ name-more bs i h e =
     ∙ ap (λ xs. (xs, rest.1)) (append_assoc (take i bs) (get_or bs i 0 ∷ []) rest.0)
     ∙ ap (front_too (take i bs)) (sym (name-here (get_or bs i 0) (drop (i + 1) bs) e))
     ∙ sym (ap (λ ys. front_too (take i bs) (name_split ys)) (drop-at bs i h))
-
-space-here : (b : ℕ) (bs : List ℕ) → b ≡ 32 → without_spaces (b ∷ bs) ≡ without_spaces bs
-space-here b bs e = rw (e, without_spaces) refl
-
-pub spaces-more : (bs : List ℕ) (i : ℕ) → i < length bs → get_or bs i 0 ≡ 32
-    → without_spaces (drop (i + 1) bs) ≡ without_spaces (drop i bs)
-spaces-more bs i h e = simp (drop-at, space-here)
-
-pub solid-more : (bs : List ℕ) (m : ℕ) → m < length bs → get_or bs m 0 ≡ 32
-    → trimmed (take m bs) ≡ trimmed (take (m + 1) bs)
-solid-more bs m h e = sym (ap trimmed (take_more bs m 0 h)
-    ∙ ap (λ b. trimmed (take m bs ++ b ∷ [])) e ∙ trimmed-space (take m bs))
-
-pub solid-end : (bs : List ℕ) (m : ℕ) → m < length bs → (get_or bs m 0 == 32) ≡ false
-    → trimmed (take (m + 1) bs) ≡ take (m + 1) bs
-solid-end bs m h e = ap trimmed (take_more bs m 0 h) ∙ trimmed-solid (take m bs) (get_or bs m 0) e
-    ∙ sym (take_more bs m 0 h)
 
 pub ne_test : (a b : ℕ) → (a ≡ b → ⊥) → (a == b) ≡ false
 ne_test a b h = grind (arith, nat_tests)

@@ -31,20 +31,6 @@ uncommented spaced [] = []
 uncommented spaced (b ∷ bs) = if b == hash_byte && spaced then []
     else b ∷ uncommented (b == space_byte) bs
 
--- the text without the spaces at its end
-abbrev pub push_front : ℕ → List ℕ → List ℕ
-push_front b [] = if b == space_byte then [] else b ∷ []
-push_front b (c ∷ bs) = b ∷ c ∷ bs
-
-abbrev pub trimmed : List ℕ → List ℕ
-trimmed [] = []
-trimmed (b ∷ bs) = push_front b (trimmed bs)
-
--- the text without the spaces at its front
-abbrev pub without_spaces : List ℕ → List ℕ
-without_spaces [] = []
-without_spaces (b ∷ bs) = elim (b == space_byte) [ true ↦ without_spaces bs | false ↦ b ∷ bs ]
-
 abbrev pub starts_with : ℕ → List ℕ → Bool
 starts_with c [] = false
 starts_with c (b ∷ bs) = b == c

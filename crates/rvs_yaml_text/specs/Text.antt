@@ -2,6 +2,7 @@
 use Rattle.std.specs.Prelude.{ℕ, suc, ◌-◌, Bool, true, false, not, ◌&&◌, ◌||◌, ◌==◌, if◌then◌else◌}
 use Rattle.std.specs.Prelude.{List, [], ◌∷◌, ◌++◌, map, take, drop, length, slice_index, bytes_eq}
 use Rattle.std.specs.Prelude.{Option, Some, None}
+use Rattle.rvs_text.specs.Spaces.{without_end, without_spaces}
 use Rattle.rvs_yaml_text.specs.Bytes.{tab_byte, feed_byte, return_byte, space_byte, hash_byte}
 use Rattle.rvs_yaml_text.specs.Bytes.{ampersand_byte, star_byte, dash_byte, dot_byte, colon_byte}
 use Rattle.rvs_yaml_text.specs.Bytes.{open_square_byte, open_curly_byte}
@@ -9,7 +10,7 @@ use Rattle.std.specs.Str.{is_utf8}
 use Rattle.rvs_yaml_text.specs.Word.{Key, square, curly, Content, nothing, text, alias, flow}
 use Rattle.rvs_yaml_text.specs.Word.{faulty, Name, Shape, dash, key, leaf, refused, Word}
 use Rattle.rvs_yaml_text.specs.Scalar.{Split, is_blank, only_comment, ends_indicator, starts_with}
-use Rattle.rvs_yaml_text.specs.Scalar.{is_empty, without_spaces, trimmed, uncommented, key_split}
+use Rattle.rvs_yaml_text.specs.Scalar.{is_empty, uncommented, key_split}
 use Rattle.rvs_yaml_text.specs.Scalar.{starts_quoted, quoted, name_split, start_fault, key_name}
 use Rattle.rvs_yaml_text.specs.Scalar.{quoted_name}
 use Rattle.rvs_yaml_text.specs.Tokens.{tokens_of}
@@ -43,7 +44,7 @@ lines_of bytes = map without_return (cut bytes)
 -- A plain scalar by itself ends at the line's end or before a comment, and has no end of a key in
 -- it.
 abbrev pub plain_ended : List ℕ → Split → Content
-plain_ended bytes None = text (trimmed (uncommented false bytes))
+plain_ended bytes None = text (without_end (uncommented false bytes))
 plain_ended bytes (Some split) = faulty BadScalar
 
 abbrev pub plain : Option YamlKind → List ℕ → Content
@@ -110,7 +111,7 @@ quoted_key (Some p) =
     then Some (quoted_name p.0, drop 1 (without_spaces p.1)) else None
 
 abbrev pub plain_key : Option YamlKind → Split → Option (Key × List ℕ)
-plain_key None (Some p) = Some (key_name (trimmed p.0), p.1)
+plain_key None (Some p) = Some (key_name (without_end p.0), p.1)
 plain_key _ _ = None
 
 abbrev pub key_of : List ℕ → Option (Key × List ℕ)

@@ -1,14 +1,15 @@
 -- The tokens of a flow collection, as they stand in its text.
 use Rattle.std.specs.Prelude.{ℕ, zero, suc, ◌-◌, Bool, true, false, ◌&&◌, ◌||◌, ◌==◌, if◌then◌else◌}
 use Rattle.std.specs.Prelude.{List, [], ◌∷◌, drop, length, slice_index, Option, Some, None}
+use Rattle.rvs_text.specs.Spaces.{without_end, without_spaces}
 use Rattle.rvs_yaml_text.specs.Bytes.{space_byte, hash_byte, ampersand_byte, star_byte, comma_byte}
 use Rattle.rvs_yaml_text.specs.Bytes.{colon_byte, open_square_byte, close_square_byte}
 use Rattle.rvs_yaml_text.specs.Bytes.{open_curly_byte, close_curly_byte}
 use Rattle.rvs_yaml_text.specs.Word.{square, curly, Token, opening, closing, comma, colon}
 use Rattle.rvs_yaml_text.specs.Word.{scalar_token, key_token, cut_key, colon_scalar, alias_token}
 use Rattle.rvs_yaml_text.specs.Word.{late_colon, fault}
-use Rattle.rvs_yaml_text.specs.Scalar.{Split, starts_with, is_empty, ends_indicator, trimmed}
-use Rattle.rvs_yaml_text.specs.Scalar.{without_spaces, starts_quoted, quoted, name_split}
+use Rattle.rvs_yaml_text.specs.Scalar.{Split, starts_with, is_empty, ends_indicator}
+use Rattle.rvs_yaml_text.specs.Scalar.{starts_quoted, quoted, name_split}
 use Rattle.rvs_yaml_text.specs.Scalar.{start_fault, key_name, quoted_name}
 use Rattle.rvs_yaml_text.specs.declared.kind.YamlKind.{YamlKind}
 use Rattle.rvs_yaml_text.specs.declared.kind.YamlKind.TheVariants.{BadScalar, Unsupported}
@@ -54,11 +55,11 @@ first_byte bytes = slice_index bytes 0
 abbrev pub plain_token : List ℕ × List ℕ → FirstToken
 plain_token p =
     elim (starts_with colon_byte p.1) [
-      | true ↦ (key_token (key_name (trimmed p.0)), drop 1 p.1)
+      | true ↦ (key_token (key_name (without_end p.0)), drop 1 p.1)
       | false ↦
-          elim (ends_in_colon (trimmed p.0)) [
+          elim (ends_in_colon (without_end p.0)) [
             | true ↦ (colon_scalar (first_byte p.1), p.1)
-            | false ↦ (scalar_token (key_name (trimmed p.0)), p.1)
+            | false ↦ (scalar_token (key_name (without_end p.0)), p.1)
           ]
     ]
 

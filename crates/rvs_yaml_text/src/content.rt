@@ -12,9 +12,10 @@ use crate::kind::YamlKind;
 use crate::quoted::{behind_first, quoted};
 use crate::scan::{
     ends_indicator, key_split, name_split, only_comment, start_fault, starts_quoted, starts_with,
-    trimmed, without_comment, without_spaces,
+    without_comment,
 };
 use crate::word::{Bracket, Content, Shape};
+use rvs_text::{without_end, without_spaces};
 use std::alloc::{AllocError, Global};
 
 /// The content of a quoted scalar with this text, behind which this stands.
@@ -185,7 +186,7 @@ fn key_of<'a>(alloc: Global, text: &'a str) -> Result<Option<(Key, &'a str)>, Al
     let Some((name, value)) = key_split(text) else {
         return Ok(None);
     };
-    let key = plain_key(alloc, trimmed(name))?;
+    let key = plain_key(alloc, without_end(name))?;
     Ok(Some((key, value)))
 }
 

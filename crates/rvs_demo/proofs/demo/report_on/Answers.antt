@@ -36,9 +36,11 @@ returns c =
     let is : c.in_ok-counter.counter ≡ state_of c.args.groups.now c.new.result [] 0 =
     rw c.in_ok-counter.ensures.both.0 at c.new_counter-counter.ensures in
     let machine : c.in_ok-counter.machine ≡ started (image c.args.count) core =
-    c.in_ok-counter.ensures.both.1 ∙ c.new-machine.ensures ∙ ap (λ i. started i core) c.in_ok-image.ensures in
+    c.in_ok-counter.ensures.both.1
+    ∙ c.new-machine.ensures ∙ ap (λ i. started i core) c.in_ok-image.ensures in
     let same =
     fed_report c.args.count c.in_ok-counter.machine c.args.groups.now c.new.result
     c.in_ok-counter.counter c.count_run.new.counter c.finish.new.self machine c.new.ensures
     c.requires.groups is c.count_run.ensures c.finish.ensures.state in
-    IfOk-map c.report-report.result (λ text is. is ∙ reported c.told.ensures ∙ same) c.report-report.ensures
+    IfOk-map c.report-report.result (λ text is. is ∙ reported c.told.ensures ∙ same)
+    c.report-report.ensures

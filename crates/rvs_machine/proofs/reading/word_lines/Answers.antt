@@ -1,6 +1,6 @@
 use Rattle.std.proofs.Common.{◌∙◌}
 use Rattle.std.proofs.lemmas.Result.{err_from_is_err_and}
-use Rattle.rvs_fault.proofs.Refusing.{refuses}
+use Rattle.rvs_base.proofs.Refusing.{refuses}
 use Rattle.rvs_machine.proofs.WordLines.{words_go, words_stop}
 use Rattle.rvs_machine.proofs.reading.word_lines.Goals as goal
 

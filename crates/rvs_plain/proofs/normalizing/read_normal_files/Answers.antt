@@ -1,5 +1,5 @@
 use Rattle.std.proofs.lemmas.Result.{err_from_is_err_and}
-use Rattle.rvs_fault.specs.Answers.{seen}
+use Rattle.rvs_base.specs.Answers.{seen}
 use Rattle.rvs_plan.specs.World.{world}
 use Rattle.rvs_plan.specs.Plan.{Ends}
 use Rattle.rvs_plan.proofs.Sequence.{Meets-then, Meets-stop}

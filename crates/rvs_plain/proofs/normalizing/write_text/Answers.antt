@@ -1,6 +1,6 @@
 use Rattle.std.proofs.Common.{◌≡◌, ◌∙◌, Ok, ap, refl, sym, subst}
 use Rattle.std.proofs.lemmas.Result.{err_from_is_err_and}
-use Rattle.rvs_fault.specs.Answers.{AnswersAs, seen}
+use Rattle.rvs_base.specs.Answers.{AnswersAs, seen}
 use Rattle.rvs_plan.specs.Plan.{Ends}
 use Rattle.rvs_plan.specs.Meets.{Meets}
 use Rattle.rvs_tree.specs.TreeView.{view}

@@ -1,5 +1,5 @@
 use Rattle.std.proofs.Common.{◌≡◌, ℕ, List, Result, Ok, Err, refl, subst}
-use Rattle.rvs_fault.specs.Answers.{seen}
+use Rattle.rvs_base.specs.Answers.{seen}
 use Rattle.rvs_plan.specs.Plan.{Ends}
 use Rattle.rvs_plan.specs.Meets.{Meets}
 use Rattle.rvs_plan.specs.Refusing.{end_at}

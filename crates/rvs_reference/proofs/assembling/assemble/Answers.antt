@@ -1,6 +1,6 @@
 use Rattle.std.proofs.Common.{subst}
 use Rattle.rvs_base.specs.Lines.{cut_lines}
-use Rattle.rvs_fault.specs.Answers.{Answers}
+use Rattle.rvs_base.specs.Answers.{Answers}
 use Rattle.rvs_asm.proofs.TextLines.{same_answer, answers_same}
 use Rattle.rvs_reference.proofs.assembling.assemble.Goals as goal
 

@@ -31,4 +31,5 @@ returns g c = λ host.
     c.end_by.ensures ∙ ap end_by (c.verdict_of.ensures ∙ ap verdict_of c.as_slice-2.ensures) in
     rw end (Meets-then (λ _. gives (end_by (verdict_of page.labels)))
     (rw text at (c.in_ok-put.ensures host))
-    (Meets-gives (end_by (verdict_of page.labels)) (world host (g.O.Sink.state c.print-put.new.out))))
+    (Meets-gives (end_by (verdict_of page.labels))
+    (world host (g.O.Sink.state c.print-put.new.out))))

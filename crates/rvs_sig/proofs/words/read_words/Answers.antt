@@ -1,5 +1,5 @@
 use Rattle.std.proofs.Common.{◌≡◌, ◌∙◌, [], arith}
-use Rattle.rvs_fault.proofs.Refusing.{refuses}
+use Rattle.rvs_base.proofs.Refusing.{refuses}
 use Rattle.rvs_sig.proofs.Counting.{HasWords-more, words_of-read, words_of-long, words_of-bad}
 use Rattle.rvs_sig.proofs.words.read_words.Goals as goal
 

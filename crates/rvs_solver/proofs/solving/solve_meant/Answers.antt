@@ -1,22 +1,22 @@
-use Rattle.std.proofs.Common.{◌≡◌, ◌∙◌, ◌≤◌, ◌+◌, sym, subst}
+use Rattle.std.proofs.Common.{◌≡◌, ◌∙◌, ◌≤◌, ◌+◌, sym, ap, subst}
 use Rattle.std.specs.Prelude.{IfSome, IfNone, IfOk, option_map}
 use Rattle.rvs_points.specs.Points.{Meaning}
-use Rattle.rvs_points.specs.PointView.{point_view}
+use Rattle.rvs_points.specs.PointView.{meaning_view, point_view}
 use Rattle.rvs_choice.specs.declared.solved.Solved.TheVariants.{One}
 use Rattle.rvs_solver.specs.First.{first_choice, Solvable}
 use Rattle.rvs_solver.specs.Solving.{first_meant, SolvesAs, IsLeastChoice, IsSolvableAs}
 use Rattle.rvs_solver.specs.Solving.{bound_meant}
 use Rattle.rvs_solver.proofs.Meant.{first_single, solves_single, solvable_single, bound_single}
-use Rattle.rvs_solver.proofs.Meant.{ok_then}
+use Rattle.rvs_solver.proofs.Meant.{single_meaning, ok_then}
 use Rattle.rvs_solver.proofs.solving.solve_meant.Goals as goal
 
-pub returns-in-Some : goal.returns-in-Some
-returns-in-Some g c =
+pub returns-in-Window : goal.returns-in-Window
+returns-in-Window g c =
     let isa = c.args.spec.now in
     let ops = c.args.ops.now in
     let p = point_view c.args.point.now in
     let r = c.solve_window.result in
-    let e = sym c.in-Some.ensures.some in
+    let e = sym (ap meaning_view c.in-Window.is) in
     record {
       first = subst (λ (m : Meaning). IfOk r (λ s. s ≡ first_meant isa ops p.kind m)) e
           c.solve_window.ensures.first;
@@ -30,14 +30,14 @@ returns-in-Some g c =
           c.solve_window.ensures.cost;
     }
 
-pub returns-in-None : goal.returns-in-None
-returns-in-None g c =
+pub returns-in_default : goal.returns-in_default
+returns-in_default g c =
     let isa = c.args.spec.now in
     let ops = c.args.ops.now in
     let p = point_view c.args.point.now in
     let m = p.meaning in
     let r = c.solve_choice.result in
-    let single = c.in-None.ensures.none in
+    let single = single_meaning c.args.point.now.meaning c.in_default.not-Window in
     record {
       first = ok_then (λ s. s ≡ option_map One (first_choice isa ops p.kind m))
           (λ s. s ≡ first_meant isa ops p.kind m)

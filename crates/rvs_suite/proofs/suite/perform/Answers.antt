@@ -26,7 +26,8 @@ pub returns-clause-done : goal.returns-clause-done
 returns-clause-done g c =
     let old = world (g.H.Host.state c.args.host.now) (g.O.Sink.state c.args.out.now) in
     let new =
-    world (g.H.Host.state c.run_command-ended.new.host) (g.O.Sink.state c.run_command-ended.new.out) in
+    world (g.H.Host.state c.run_command-ended.new.host)
+    (g.O.Sink.state c.run_command-ended.new.out) in
     subst (λ (command : Command). Performs command old new (as_planned c.run_command-ended.result))
     c.in_ok-command.ensures c.run_command-ended.ensures.done
 

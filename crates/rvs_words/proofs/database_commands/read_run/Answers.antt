@@ -6,5 +6,6 @@ use Rattle.rvs_words.proofs.database_commands.read_run.Goals as goal
 pub returns : goal.returns
 returns c =
     by-pairs run_options (run_of c.args.program.now) (texts c.args.words.now)
-    c.in_ok-options.options c.as_slice.result.now c.read_source.result c.in_ok-options.ensures c.as_slice.ensures
+    c.in_ok-options.options c.as_slice.result.now c.read_source.result c.in_ok-options.ensures
+    c.as_slice.ensures
     c.read_source.ensures

@@ -8,6 +8,7 @@ returns c =
     let values = of-values c.args.pairs.now in
     ap (λ (name : List ℕ). run_groups_of name values) (sym c.in_ok-program.ensures)
     ∙ run-of c.in_ok-program.program values c.in_ok-isa.isa c.in_ok-device.device
-    c.in_ok-work.work c.in_ok-groups.groups c.in_ok-part.part c.in_ok-families.families
-    c.in_ok-isa.ensures c.in_ok-groups.ensures c.in_ok-device.ensures c.in_ok-work.ensures
+    c.in_ok-device.work c.in_ok-groups.groups c.in_ok-part.part c.in_ok-families.families
+    c.in_ok-isa.ensures c.in_ok-groups.ensures c.in_ok-device.ensures.read.0
+    c.in_ok-device.ensures.read.1
     c.in_ok-part.ensures c.in_ok-families.ensures

@@ -40,10 +40,11 @@ returns c =
       inner = ap (λ ys. anchors_view (drop n ys)) h
           ∙ ap anchors_view (drop-append-le n all (a ∷ []) c.requires)
           ∙ anchors-append (drop n all) (a ∷ [])
-          ∙ ap (λ w. (name, w) ∷ xs) c.in_ok-value.ensures.value
+          ∙ ap (λ w. (name, w) ∷ xs)
+          (rw c.in_ok-value.ensures.both.0 at c.shared_value.ensures.value)
           ∙ sym (ap (λ o. (noted (name_view o) (found v xs)).anchors) c.in-Some.is
           ∙ ap (λ t. (if t then found v xs else found v ((name, v) ∷ xs)).anchors)
           (sym c.is_behind.ensures ∙ c.if-is_behind.false));
       outer = ap (take n) h ∙ take-append-le n all (a ∷ []) c.requires;
       more = omega (arith, ap length h, length-append all (a ∷ []));
-    }) c.with_anchor.ensures
+    }) (rw c.in_ok-value.ensures.both.1 at c.with_anchor.ensures)

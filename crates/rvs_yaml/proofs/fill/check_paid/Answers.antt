@@ -1,6 +1,6 @@
 use Rattle.std.proofs.Common.{◌≡◌, ◌∷◌, ◌-◌, ◌∙◌, sym, ap, subst, length, take, Some, false}
 use Rattle.std.proofs.lemmas.Result.{err_from_is_err_and}
-use Rattle.rvs_fault.specs.Answers.{seen}
+use Rattle.rvs_base.specs.Answers.{seen}
 use Rattle.rvs_tree.specs.ValueView.{value_view}
 use Rattle.rvs_yaml_text.specs.Tokens.{tokens_of}
 use Rattle.rvs_yaml_text.specs.Word.{opens_block}
@@ -69,10 +69,10 @@ returns c =
     λ v. ap (λ xs. ends v (stack_view xs)) c.as_slice-blocks.ensures.value
     ∙ sym (ends-anchored v all bs)
     ∙ ap (ends v) split in
-    subst (λ x. Denies c.check_thin.result (filled (Some (b, ts)) x)) (sym split)
-    (denied-front c.check_thin.result (open_at all top) rest b ts (value_view c.in_ok-thin.thin)
-    leaf
+    subst (λ x. Denies c.check_thin-checked.result (filled (Some (b, ts)) x)) (sym split)
+    (denied-front c.check_thin-checked.result (open_at all top) rest b ts
+    (value_view c.in_ok-thin.thin) leaf
     (ap (λ xs. seen standin (flow_value xs top.head.line b ts)) known ∙ c.in_ok-thin.ensures)
-    (λ v e t. subst (DeniesFront c.check_thin.result) (front v)
-    (c.check_thin.ensures top.head.line b
+    (λ v e t. subst (DeniesFront c.check_thin-checked.result) (front v)
+    (c.check_thin-checked.ensures top.head.line b
     v (sym (ap (λ xs. flow_value xs top.head.line b ts) known) ∙ e) t)))

@@ -1,12 +1,35 @@
-use Rattle.std.proofs.Common.{◌≡◌, ◌∙◌, sym, ap, false}
+use Rattle.std.proofs.Common.{◌≡◌, ◌∙◌, sym, ap, false, Ok}
+use Rattle.std.proofs.lemmas.Result.{err_from_is_err_and}
 use Rattle.rvs_yaml_text.specs.Bytes.{space_byte}
 use Rattle.rvs_yaml_text.specs.Scalar.{starts_with}
+use Rattle.rvs_yaml_text.specs.Tokens.{closes}
 use Rattle.rvs_yaml_text.specs.TokenView.{first_view}
+use Rattle.rvs_base.specs.Answers.{seen}
+use Rattle.rvs_yaml.specs.Checks.{Checked}
+use Rattle.rvs_yaml.specs.FlowSteps.{Reading}
+use Rattle.rvs_yaml.specs.TokenParts.{Flowing, flowing}
 use Rattle.rvs_yaml.specs.StackView.{known_view}
 use Rattle.rvs_yaml.specs.FlowView.{reading_view}
-use Rattle.rvs_yaml.proofs.Giving.{gives_same}
+use Rattle.rvs_yaml.proofs.Giving.{fails_to}
 use Rattle.rvs_yaml.proofs.Tokens.{next-token}
 use Rattle.rvs_yaml.proofs.flow_text.next_flowing.Goals as goal
+
+pub returns-in_err-reading : goal.returns-in_err-reading
+returns-in_err-reading c =
+    let a = c.args in
+    let f = a.flowing in
+    let no_space : starts_with space_byte f.rest.now ≡ false =
+    ap (starts_with space_byte) (sym c.as_bytes.ensures.value) ∙ sym c.starts_with.ensures
+    ∙ c.if-starts_with.false in
+    let t = first_view (c.in_ok-token.token, c.in_ok-token.behind) in
+    let next = next-token a.known.now.poor (known_view a.known.now) a.line
+    (reading_view f.reading) f.closed f.spaced f.rest.now t no_space
+    (rw c.in_ok-token.ensures.both.0 at c.next_token.ensures) in
+    let see : Reading → Flowing = λ s. flowing s (closes t.0) false t.1 in
+    let p = err_from_is_err_and c.from_residual-in_err-reading.result
+    c.from_residual-in_err-reading.ensures.1 in
+    rw (p.1, p.2) (fails_to _ _ _ (λ kind is. sym next ∙ ap (seen see) is)
+    (rw c.in_ok-token.ensures.both.1 at c.in_err-reading.ensures.given))
 
 pub returns : goal.returns
 returns c =
@@ -15,8 +38,12 @@ returns c =
     let no_space : starts_with space_byte f.rest.now ≡ false =
     ap (starts_with space_byte) (sym c.as_bytes.ensures.value) ∙ sym c.starts_with.ensures
     ∙ c.if-starts_with.false in
-    gives_same _ _ _ _ (next-token a.known.now.poor (known_view a.known.now) a.line
-    (reading_view f.reading) f.closed f.spaced f.rest.now
-    (first_view (c.in_ok-token.token, c.in_ok-token.behind)) no_space
-    (rw c.in_ok-token.ensures.both.0 at c.next_token-token.ensures))
-    (rw c.in_ok-token.ensures.both.1 at c.behind_token.ensures)
+    let t = first_view (c.in_ok-token.token, c.in_ok-token.behind) in
+    let next = next-token a.known.now.poor (known_view a.known.now) a.line
+    (reading_view f.reading) f.closed f.spaced f.rest.now t no_space
+    (rw c.in_ok-token.ensures.both.0 at c.next_token.ensures) in
+    let see : Reading → Flowing = λ s. flowing s (closes t.0) false t.1 in
+    sym next ∙ ap (seen see) (rw c.in_ok-token.ensures.both.1 at c.in_ok-reading.ensures.given)
+    ∙ ap (λ b. let r : Checked Flowing =
+    Ok (flowing (reading_view c.in_ok-reading.reading) b false t.1) in r)
+    (sym c.closes-closed.ensures)

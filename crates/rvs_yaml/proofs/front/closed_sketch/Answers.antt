@@ -25,5 +25,5 @@ returns-in-Entries c = λ v s.
     ap done_view c.in-Entries.is ∙ sym (ap
     (λ (p : Pending). done_entries (entries_view p.list.entries.items) (key_view p.key))
     c.deref.ensures) in
-    subst (λ d. SketchedAs c.pending_sketch.result (closed_value d line v)) (sym here)
-    (c.pending_sketch.ensures line v s)
+    subst (λ d. SketchedAs c.entry_sketch.result (closed_value d line v)) (sym here)
+    (c.entry_sketch.ensures line v s (c.brought_depth.ensures.bound _ v s))

@@ -1,5 +1,5 @@
 use Rattle.std.proofs.Common.{◌≡◌, ◌-◌, ◌∙◌, sym, ap, arith, length, true, false, Ok}
-use Rattle.rvs_yaml_text.specs.Scalar.{without_spaces}
+use Rattle.rvs_text.specs.Spaces.{without_spaces}
 use Rattle.rvs_yaml_text.specs.Word.{dash}
 use Rattle.rvs_yaml.specs.Stack.{step, steps}
 use Rattle.rvs_yaml_text.specs.Text.{word_at, words_at, item_name}
@@ -39,7 +39,8 @@ loop-behind-preserved c =
     let is = c.without_spaces-rest-in-Some.ensures in
     let w = word_at c.args.line (n - length rest) (dash (item_name behind)) in
     let stepped : step here w ≡ Ok after =
-    ap (step here) (sym c.dash.ensures) ∙ c.in_ok-stack.ensures.given in (
+    ap (λ name. step here (word_at c.args.line (n - length rest) (dash name)))
+    (sym c.item_name.ensures) ∙ c.in_ok-stack.ensures.given in (
       ap (λ r. steps after (words_at c.args.line true (n - length r) r)) is
           ∙ steps-next here after w _ stepped
           ∙ sym (ap (steps here) (words-next c.args.line c.loop-behind.item n rest behind

@@ -1,7 +1,7 @@
 use Rattle.std.proofs.Common.{◌≡◌, ◌≤◌, ◌-◌, length, false}
 use denote.Shadow.{shadow}
 use denote.Text.{Utf8}
-use Rattle.rvs_yaml_text.specs.Scalar.{without_spaces}
+use Rattle.rvs_text.specs.Spaces.{without_spaces}
 use Rattle.rvs_yaml.specs.Stack.{steps}
 use Rattle.rvs_yaml_text.specs.Text.{words_at}
 use Rattle.rvs_yaml.specs.StackView.{open_blocks}

@@ -2,7 +2,7 @@ use Rattle.std.proofs.Common.{◌≡◌, ◌∷◌, ◌++◌, [], ◌∙◌, sym
 use Rattle.std.proofs.Common.{IfErr}
 use Rattle.std.specs.Prelude.{IfOk}
 use Rattle.std.proofs.lemmas.Result.{err_from_is_err_and}
-use Rattle.rvs_fault.specs.Answers.{seen}
+use Rattle.rvs_base.specs.Answers.{seen}
 use Rattle.rvs_yaml.specs.Gives.{Gives}
 use Rattle.rvs_yaml.specs.StepParts.{opened}
 use Rattle.rvs_yaml.specs.Rising.{Rises, befores}

@@ -30,20 +30,6 @@ loop-blocks-preserved c =
     c.closed_named-closed.ensures.given c.closed_named-closed.ensures.named in
     record { rising = k.0; same = k.1 ∙ l.invariant.same }
 
-pub loop-blocks-preserved-in_ok-closed : goal.loop-blocks-preserved-in_ok-closed
-loop-blocks-preserved-in_ok-closed c =
-    let l = c.loop-blocks in
-    let w = word_view c.args.word in
-    let is = c.in_ok-closed.ensures.both in
-    let k = closes-over (value_view l.value) l.block c.in-Some.outer l.blocks.items
-    c.pop.new.self.items l.anchors.anchors.items c.closed_named-closed.result c.in_ok-closed.closed
-    c.in_ok-closed.kept c.in_ok-closed.around w
-    (subst (λ xs. Closing (slice_get xs (length xs - 1)) w true) c.as_slice.ensures.value
-    c.loop-blocks-test.ensures.inner)
-    c.in-Some.ensures.items l.invariant.rising is.0 is.1
-    c.closed_named-closed.ensures.given c.closed_named-closed.ensures.named in
-    record { rising = k.0; same = k.1 ∙ l.invariant.same }
-
 pub returns-in_err-closed : goal.returns-in_err-closed
 returns-in_err-closed c =
     let w = word_view c.args.word in

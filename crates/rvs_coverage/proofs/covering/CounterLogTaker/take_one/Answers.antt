@@ -34,10 +34,10 @@ returns-in_err-take_log-clause-met g c = λ out.
     (taken_more c.args.self.now c.args.log.now) c.args.known none in
     rw (p.1, p.2) (rw c.as_str.ensures at met)
 
-pub returns-in_err-with_tally-clause-met : goal.returns-in_err-with_tally-clause-met
-returns-in_err-with_tally-clause-met g c = λ out.
-    let p = err_from_is_err_and c.from_residual-in_err-with_tally.result
-    c.from_residual-in_err-with_tally.ensures.1 in
+pub returns-in_err-ran-clause-met : goal.returns-in_err-ran-clause-met
+returns-in_err-ran-clause-met g c = λ out.
+    let p = err_from_is_err_and c.from_residual-in_err-ran.result
+    c.from_residual-in_err-ran.ensures.1 in
     let met = wants-log out (taken_more c.args.self.now c.args.log.now) c.args.known
     c.in_ok-take_log.ensures.taken in
     rw (p.1, p.2) (rw c.as_str.ensures at met)
@@ -54,13 +54,20 @@ returns-clause-met g c = λ out.
     c.restart.ensures ∙ begun_is (tally_of labels windows) in
     let at_end : c.take_log.new.reader ≡ state_of labels windows (ended log.bytes) count =
     log.state (tally_of labels windows) (tally_told labels windows) begun in
-    let now : c.in_ok-with_tally.field-0
+    let counts : c.in_ok-ran.counts ≡ plus_each c.args.known.counts c.told-tally.result.now.counts =
+    c.in_ok-ran.ensures.both.1 ∙ c.plus_each-counts.ensures.numbers
+    ∙ ap (plus_each c.args.known.counts) c.counts.ensures in
+    let ran : c.in_ok-ran.ran ≡ c.args.known.ran ++ c.told-tally.result.now.instructions ∷ [] =
+    rw c.in_ok-ran.ensures.both.0 at c.with_number.ensures
+    ∙ ap (λ (n : ℕ). c.args.known.ran ++ n ∷ []) c.instructions.ensures in
+    let now : record { counts = c.in_ok-ran.counts; ran = c.in_ok-ran.ran }
     ≡ counted_with windows (groups_view labels) c.args.known log.bytes =
-    c.in_ok-with_tally.ensures.counted ∙ ap (with_tally c.args.known) c.told.ensures
+    (λ i. record { counts = counts i; ran = ran i })
+    ∙ ap (with_tally c.args.known) c.told-tally.ensures
     ∙ ap (λ (s : CountState). with_tally c.args.known s.told) at_end
     ∙ at-end labels windows c.args.known log.bytes count in
-    rw c.as_str.ensures at (knows-log out (taken_more was c.args.log.now) c.args.known
-    c.in_ok-with_tally.field-0 log none now)
+    rw c.as_str.ensures at (knows-log out (taken_more was c.args.log.now) c.args.known _ log none
+    now)
 
 pub returns-clause-same : goal.returns-clause-same
 returns-clause-same g c =
@@ -82,10 +89,10 @@ returns-in_err-take_log-clause-told g c =
     let p = err_from_is_err_and c.from_residual.result c.from_residual.ensures.1 in
     rw (p.1, p.2) (rw c.as_str.ensures at c.in_err-take_log.ensures.told)
 
-pub returns-in_err-with_tally-clause-told : goal.returns-in_err-with_tally-clause-told
-returns-in_err-with_tally-clause-told g c =
-    let p = err_from_is_err_and c.from_residual-in_err-with_tally.result
-    c.from_residual-in_err-with_tally.ensures.1 in
+pub returns-in_err-ran-clause-told : goal.returns-in_err-ran-clause-told
+returns-in_err-ran-clause-told g c =
+    let p = err_from_is_err_and c.from_residual-in_err-ran.result
+    c.from_residual-in_err-ran.ensures.1 in
     rw (p.1, p.2) (told-cut (rw c.as_str.ensures at c.in_ok-take_log.ensures.told))
 
 pub returns-clause-told : goal.returns-clause-told

@@ -35,10 +35,10 @@ returns-in_err-take_log-clause-met g c = λ out.
     (taken_more c.args.self.now c.args.log.now) c.args.known none in
     rw (p.1, p.2) (rw c.as_str-name.ensures at met)
 
-pub returns-in_err-with_trail-clause-met : goal.returns-in_err-with_trail-clause-met
-returns-in_err-with_trail-clause-met g c = λ out.
-    let p = err_from_is_err_and c.from_residual-in_err-with_trail.result
-    c.from_residual-in_err-with_trail.ensures.1 in
+pub returns-in_err-ran-clause-met : goal.returns-in_err-ran-clause-met
+returns-in_err-ran-clause-met g c = λ out.
+    let p = err_from_is_err_and c.from_residual-in_err-ran.result
+    c.from_residual-in_err-ran.ensures.1 in
     let met = wants-log out (taken_more c.args.self.now c.args.log.now) c.args.known
     c.in_ok-take_log.ensures.taken in
     rw (p.1, p.2) (rw c.as_str-name.ensures at met)
@@ -55,13 +55,29 @@ returns-clause-met g c = λ out.
     c.restart.ensures ∙ begun_is (trail_of labels range.lo range.hi) in
     let at_end : c.take_log.new.reader ≡ state_of labels range.lo range.hi (ended log.bytes) count =
     log.state (trail_of labels range.lo range.hi) (trail_told labels range.lo range.hi) begun in
-    let now : c.in_ok-with_trail.field-0
+    let reached : c.in_ok-ran.counts.0
+    ≡ plus_each c.args.known.reached c.told-trail.result.now.reached =
+    ap (λ (p : List ℕ × List ℕ). p.0) c.in_ok-ran.ensures.both.1
+    ∙ c.plus_each-reached.ensures.numbers
+    ∙ ap (plus_each c.args.known.reached) c.reached.ensures in
+    let hits : c.in_ok-ran.counts.1 ≡ plus_each c.args.known.hits c.told-trail.result.now.hits =
+    ap (λ (p : List ℕ × List ℕ). p.1) c.in_ok-ran.ensures.both.1 ∙ c.plus_each-hits.ensures.numbers
+    ∙ ap (plus_each c.args.known.hits) c.hits.ensures in
+    let ran : c.in_ok-ran.ran ≡ c.args.known.ran ++ c.told-trail.result.now.instructions ∷ [] =
+    rw c.in_ok-ran.ensures.both.0 at c.with_number.ensures
+    ∙ ap (λ (n : ℕ). c.args.known.ran ++ n ∷ []) c.instructions.ensures in
+    let now : record {
+      reached = c.in_ok-ran.counts.0;
+      hits = c.in_ok-ran.counts.1;
+      ran = c.in_ok-ran.ran;
+    }
     ≡ tracked_with range (groups_view labels) c.args.known log.bytes =
-    c.in_ok-with_trail.ensures.tracked ∙ ap (with_trail c.args.known) c.told.ensures
+    (λ i. record { reached = reached i; hits = hits i; ran = ran i })
+    ∙ ap (with_trail c.args.known) c.told-trail.ensures
     ∙ ap (λ (s : TrackState). with_trail c.args.known s.told) at_end
     ∙ at-end labels range c.args.known log.bytes count in
-    rw c.as_str-name.ensures at (knows-log out (more_by was c.args.log.now) c.args.known
-    c.in_ok-with_trail.field-0 log none now)
+    rw c.as_str-name.ensures at (knows-log out (more_by was c.args.log.now) c.args.known _ log none
+    now)
 
 pub returns-clause-same : goal.returns-clause-same
 returns-clause-same g c =
@@ -82,10 +98,10 @@ returns-in_err-take_log-clause-told g c =
     let p = err_from_is_err_and c.from_residual.result c.from_residual.ensures.1 in
     rw (p.1, p.2) (rw c.as_str-name.ensures at c.in_err-take_log.ensures.told)
 
-pub returns-in_err-with_trail-clause-told : goal.returns-in_err-with_trail-clause-told
-returns-in_err-with_trail-clause-told g c =
-    let p = err_from_is_err_and c.from_residual-in_err-with_trail.result
-    c.from_residual-in_err-with_trail.ensures.1 in
+pub returns-in_err-ran-clause-told : goal.returns-in_err-ran-clause-told
+returns-in_err-ran-clause-told g c =
+    let p = err_from_is_err_and c.from_residual-in_err-ran.result
+    c.from_residual-in_err-ran.ensures.1 in
     rw (p.1, p.2) (told-cut (rw c.as_str-name.ensures at c.in_ok-take_log.ensures.told))
 
 pub returns-clause-told : goal.returns-clause-told

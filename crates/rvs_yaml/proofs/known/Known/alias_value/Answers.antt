@@ -1,5 +1,5 @@
 use Rattle.std.proofs.Common.{◌∙◌, sym, ap, Ok}
-use Rattle.rvs_fault.specs.Answers.{seen}
+use Rattle.rvs_base.specs.Answers.{seen}
 use Rattle.rvs_tree.specs.Value.{Value}
 use Rattle.rvs_tree.specs.Standin.{formed_value}
 use Rattle.rvs_yaml.specs.Anchors.{known_alias}

@@ -1,9 +1,0 @@
-use Rattle.std.proofs.Common.{◌≡◌, drop, IsCharBoundary}
-use Rattle.rvs_yaml_text.specs.Scalar.{without_spaces}
-use Rattle.rvs_yaml_text.proofs.scan.without_spaces.Given as goal
-
-abbrev pub invariant-loop-i : goal.invariant-loop-i
-invariant-loop-i l = record {
-  same : without_spaces (drop l.i l.text) ≡ without_spaces l.text;
-  boundary : IsCharBoundary l.text l.i;
-}
