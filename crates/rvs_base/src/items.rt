@@ -6,9 +6,15 @@ use std::alloc::Global;
 use std::marker::Model;
 
 /// A growing list. Contracts see it as the list of its items.
-#[derive(Drop)]
 pub struct Items<T> {
     list: Vec<T>,
+}
+
+impl<T: Drop> Drop for Items<T> {
+    fn drop(self) {
+        let Items { list } = self;
+        drop(list);
+    }
 }
 
 /// A list of bytes, which needn't be UTF-8.
@@ -43,7 +49,8 @@ impl<T> Items<T> {
     pub fn into_vec(self) -> Vec<T>
         ensures { result.items ≡ self }
     {
-        self.list
+        let Items { list } = self;
+        list
     }
 
     /// The allocator from which the list takes memory.

@@ -12,7 +12,7 @@ pub fn release<T: Drop>(_value: T) {}
 ///
 /// That of `made`.
 #[inline]
-pub fn beside<T: Drop, E: Drop, U: Drop>(made: Result<T, E>, other: U) -> Result<(T, U), E>
+pub fn beside<T, E, U: Drop>(made: Result<T, E>, other: U) -> Result<(T, U), E>
     ensures both { IfOk result (λ p. (made ≡ Ok p.0) × (p.1 ≡ other)) }
     ensures none { IfErr result (λ e. made ≡ Err e) }
 {

@@ -7,9 +7,15 @@ use std::fmt;
 use std::marker::Model;
 
 /// A growing UTF-8 text. Contracts see it as the list of its bytes.
-#[derive(Drop)]
 pub struct Text {
     string: String,
+}
+
+impl Drop for Text {
+    fn drop(self) {
+        let Text { string } = self;
+        drop(string);
+    }
 }
 
 impl Model for Text {

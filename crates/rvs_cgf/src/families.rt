@@ -13,7 +13,7 @@ use crate::place::{At, at_key};
 use crate::refusal::CgfRefusal;
 use crate::walk::{Taken, add, is_shaped, refusal, skip};
 use rvs_abstract::{Call, Families, Family4, len, read_call, value};
-use rvs_base::{Fault, NoMemory, Text};
+use rvs_base::{Fault, NoMemory, Text, release};
 use rvs_expr::{Expr, NumName, parse_num};
 use rvs_points::{CgfKind, Kind, Meaning, Point};
 use rvs_tree::Tree;
@@ -56,7 +56,10 @@ fn add_value(
 {
     match value_point(alloc, var, value) {
         Ok(point) => add(alloc, place, point, taken),
-        Err(NoMemory) => Err(Fault::NoMemory),
+        Err(NoMemory) => {
+            release(taken);
+            Err(Fault::NoMemory)
+        }
     }
 }
 
@@ -151,7 +154,10 @@ fn add_values(
 {
     match pair_point(alloc, var, value, other, beside) {
         Ok(point) => add(alloc, place, point, taken),
-        Err(NoMemory) => Err(Fault::NoMemory),
+        Err(NoMemory) => {
+            release(taken);
+            Err(Fault::NoMemory)
+        }
     }
 }
 
@@ -233,13 +239,17 @@ fn abstract_entry(
         (taken_view taken)) }
 {
     if !is_shaped(place.key, entry) {
+        release(taken);
         return Err(refusal(alloc, place, CgfKind::BadShape));
     }
     match read_call(families, place.key) {
         Ok(Call::Points(f)) => family_values(alloc, place, &f, taken),
         Ok(Call::Pairs(a, b)) => family_pairs(alloc, place, &a, &b, taken),
         Ok(Call::Skipped) => skip(alloc, place, taken),
-        Err(why) => Err(refusal(alloc, place, CgfKind::BadAbstract(why))),
+        Err(why) => {
+            release(taken);
+            Err(refusal(alloc, place, CgfKind::BadAbstract(why)))
+        }
     }
 }
 

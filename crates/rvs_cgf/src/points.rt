@@ -131,7 +131,7 @@ impl Points {
                 Ok(Points { list, known })
             }
             Err(_) => {
-                release(point);
+                release((point, list));
                 Err(NoMemory)
             }
         }

@@ -7,7 +7,7 @@ ghost use Rattle.rvs_cgf.specs.Print as spec;
 
 use crate::refusal::CgfRefusal;
 use crate::walk::same_kind;
-use rvs_base::{NoMemory, Refusal, Text};
+use rvs_base::{NoMemory, Refusal, Text, release};
 use rvs_cross::CrossRefusal;
 use rvs_expr::ExprRefusal;
 use rvs_points::{CgfKind, Groups, Kind, Label, Point, Skipped};
@@ -201,7 +201,9 @@ fn cross_text(alloc: Global, why: &CrossRefusal) -> Result<Text, NoMemory>
 {
     let number = why.number();
     let detail = cross_detail(alloc, why)?;
-    Ok(Text::from(format!(in alloc; " cross {number}{detail}")?))
+    let told = format!(in alloc; " cross {number}{detail}");
+    release(detail);
+    Ok(Text::from(told?))
 }
 
 fn inner_text(alloc: Global, kind: &CgfKind) -> Result<Text, NoMemory>
@@ -229,6 +231,8 @@ impl Refusal for CgfRefusal {
         let node = or_dash(self.node.as_str());
         let key = or_dash(self.key.as_str());
         let inner = inner_text(alloc, &self.kind)?;
-        Ok(Text::from(format!(in alloc; "cgf {number} {label} {node} {key}{inner}")?))
+        let told = format!(in alloc; "cgf {number} {label} {node} {key}{inner}");
+        release(inner);
+        Ok(Text::from(told?))
     }
 }

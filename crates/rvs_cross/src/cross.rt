@@ -42,7 +42,6 @@ pub struct Assignment {
 }
 
 /// What a cross point asks of one instruction.
-#[derive(Drop)]
 pub struct Place {
     /// Its mnemonics; none where any will do.
     pub ops: Option<Items<Op>>,
@@ -50,6 +49,19 @@ pub struct Place {
     pub sets: Items<Assignment>,
     /// An expression over registers, which may use variables.
     pub condition: Option<Expr>,
+}
+
+impl Drop for Place {
+    fn drop(self) {
+        let Place {
+            ops,
+            sets,
+            condition,
+        } = self;
+        drop(ops);
+        drop(sets);
+        drop(condition);
+    }
 }
 
 /// Which variables the places of a cross point say something of.

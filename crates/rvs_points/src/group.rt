@@ -59,7 +59,6 @@ pub enum Meaning {
 }
 
 /// A coverage point.
-#[derive(Drop)]
 pub struct Point {
     /// What it is a point of.
     pub kind: Kind,
@@ -67,6 +66,18 @@ pub struct Point {
     pub key: Text,
     /// What it means.
     pub meaning: Meaning,
+}
+
+impl Drop for Point {
+    fn drop(self) {
+        let Point {
+            kind: _,
+            key,
+            meaning,
+        } = self;
+        drop(key);
+        drop(meaning);
+    }
 }
 
 /// An entry that is listed and not counted.
@@ -79,7 +90,6 @@ pub struct Skipped {
 }
 
 /// A coverage group. Of one that isn't selected nothing but the name is there.
-#[derive(Drop)]
 pub struct Label {
     /// Its name.
     pub name: Text,
@@ -91,6 +101,22 @@ pub struct Label {
     pub points: Items<Point>,
     /// Its entries that aren't counted.
     pub skipped: Items<Skipped>,
+}
+
+impl Drop for Label {
+    fn drop(self) {
+        let Label {
+            name,
+            selected: _,
+            ops,
+            points,
+            skipped,
+        } = self;
+        drop(name);
+        drop(ops);
+        drop(points);
+        drop(skipped);
+    }
 }
 
 /// The groups of a file, in order.

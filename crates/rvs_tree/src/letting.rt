@@ -4,7 +4,7 @@ ghost use Rattle.std.specs.Prelude.{◌≡◌, ◌∷◌, ◌++◌, [], Ok, IfOk
 use std::alloc::AllocError;
 
 /// What was made, with the other value; where nothing was made, the other value is let go.
-pub(crate) fn beside<T: Drop, U: Drop>(
+pub(crate) fn beside<T, U: Drop>(
     made: Result<T, AllocError>,
     other: U,
 ) -> Result<(T, U), AllocError>

@@ -10,7 +10,7 @@ ghost use Rattle.rvs_yaml.specs.StackView.{own_view, stack_view};
 
 use crate::open::{Block, Open};
 use crate::stack::{closed_value, own_value};
-use rvs_base::Fault;
+use rvs_base::{Fault, release};
 use rvs_tree::{Value, scalar_value};
 use rvs_yaml_text::YamlKind;
 use std::alloc::Global;
@@ -25,7 +25,8 @@ fn closed_blocks(
         (spec.ends (value_view value) (stack_view blocks.entry.items)) }
 {
     while let Some(outer) = blocks.pop() {
-        let Open { block, .. } = outer;
+        let Open { block, own, .. } = outer;
+        release(own);
         let Block { line, done, .. } = block;
         value = closed_value(alloc, line, done, value)?;
     }
