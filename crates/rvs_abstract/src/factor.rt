@@ -26,15 +26,9 @@ pub fn factor_of(
 ) -> Option<Factor>
     ensures { result ≡ spec.factor_of var size signed }
 {
-    match var {
-        Some(var) => match size {
-            Some(size) => match signed {
-                Some(signed) => Some(Factor { var, size, signed }),
-                None => None,
-            },
-            None => None,
-        },
-        None => None,
+    match (var, size, signed) {
+        (Some(var), Some(size), Some(signed)) => Some(Factor { var, size, signed }),
+        _ => None,
     }
 }
 

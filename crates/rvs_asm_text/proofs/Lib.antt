@@ -4,3 +4,4 @@ pub mod Symbols
 pub mod Ready
 pub mod Mnemonics
 pub mod ValueFaults
+pub mod Fronts

@@ -1,15 +1,14 @@
 // Directives.
-ghost use Rattle.std.specs.Prelude.{◌≡◌, ◌<◌, ◌≤◌, ◌⊎◌, Some, IfOk, codes};
+ghost use Rattle.std.specs.Prelude.{◌≡◌, ◌<◌, ◌≤◌, ◌⊎◌, Some, IfOk};
 ghost use Rattle.std.specs.List.{list_any};
 ghost use Rattle.rvs_asm_text.specs.Text.{is_blank};
 ghost use Rattle.rvs_asm_text.specs.Numbers.{number_of};
 ghost use Rattle.rvs_asm_text.specs.Instructions.{number_value, IsReady};
 ghost use Rattle.rvs_asm_text.specs.Operands.{only, triple};
-ghost use Rattle.rvs_asm_text.specs.Header.{after_front};
 ghost use Rattle.rvs_asm_text.specs.Directives.{directive_name, directive_of, fits, data_value};
 ghost use Rattle.rvs_asm_text.specs.Directives.{wide, values_fault, values, without_operands};
 ghost use Rattle.rvs_asm_text.specs.Directives.{one_word, aligned, zeroed, filled, filled_by};
-ghost use Rattle.rvs_asm_text.specs.Directives.{number_of_one, is_size, directed, begins};
+ghost use Rattle.rvs_asm_text.specs.Directives.{number_of_one, is_size, directed};
 ghost use Rattle.rvs_asm_text.specs.Directives.{section_named, section_of};
 
 use crate::arguments::Operands;
@@ -191,14 +190,8 @@ fn read_word(operands: Operands<'_>) -> Result<Body<'static>, LineFault>
     ensures ready { IfOk result IsReady }
 {
     match operands.only() {
-        Some(word) => {
-            if has_blank(word) {
-                Err(LineFault::BadOperand)
-            } else {
-                Ok(Body::Nothing)
-            }
-        },
-        None => Err(LineFault::BadOperand),
+        Some(word) if !has_blank(word) => Ok(Body::Nothing),
+        _ => Err(LineFault::BadOperand),
     }
 }
 
@@ -303,21 +296,8 @@ pub fn read_directed<'t>(
     }
 }
 
-/// Whether a text begins with `.text`.
-fn begins_with_text(text: &[u8]) -> bool
-    ensures { result ≡ begins (codes ".text") text.now }
-{
-    matches!(text, [b'.', b't', b'e', b'x', b't', ..])
-}
-
-/// Whether a text begins with `.data`.
-fn begins_with_data(text: &[u8]) -> bool
-    ensures { result ≡ begins (codes ".data") text.now }
-{
-    matches!(text, [b'.', b'd', b'a', b't', b'a', ..])
-}
-
 /// `.section` with its operands, of which the first decides.
+#[tactic(auto, using(crate::proofs::Fronts::begins_as))]
 pub fn read_section(mut operands: Operands<'_>) -> Result<Body<'static>, LineFault>
     ensures body { result ≡ section_of operands.entry }
     ensures ready { IfOk result IsReady }
@@ -328,9 +308,9 @@ pub fn read_section(mut operands: Operands<'_>) -> Result<Body<'static>, LineFau
     };
     if name.is_empty() {
         Err(LineFault::BadLine)
-    } else if begins_with_text(name) {
+    } else if name.starts_with(b".text") {
         Ok(Body::ToText)
-    } else if begins_with_data(name) {
+    } else if name.starts_with(b".data") {
         Ok(Body::ToData)
     } else {
         Err(LineFault::BadOperand)

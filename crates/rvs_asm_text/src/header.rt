@@ -1,7 +1,6 @@
 // The header of a test.
-ghost use Rattle.std.specs.Prelude.{◌≡◌, ◌≤◌, MatchOption, Some, None};
-ghost use Rattle.std.specs.Option.{option_copied};
-ghost use Rattle.rvs_asm_text.specs.Header.{after_front, steps_number, steps_line, header_steps};
+ghost use Rattle.std.specs.Prelude.{◌≡◌};
+ghost use Rattle.rvs_asm_text.specs.Header.{steps_line, header_steps};
 
 use crate::cutting::first_line;
 use rvs_base::short_number;
@@ -9,36 +8,16 @@ use rvs_base::short_number;
 /// The most steps that a test may take.
 const MOST_STEPS: u64 = 2_000_000;
 
-/// The number of steps that digits allow: one to seven of them, from 1 to 2,000,000.
-fn allowed_steps(text: &[u8]) -> Option<u64>
-    ensures { result ≡ steps_number text.now }
+/// The number of steps that a line of a header allows: one to seven digits, from 1 to 2,000,000.
+#[tactic(auto, using(crate::proofs::Fronts::front_cut))]
+fn line_steps(line: &[u8]) -> Option<u64>
+    ensures { result ≡ steps_line line.now }
 {
-    let steps = short_number(7, 10, text)?;
+    let steps = short_number(7, 10, line.strip_prefix(b"#! steps ")?)?;
     if steps >= 1 && steps <= MOST_STEPS {
         Some(steps)
     } else {
         None
-    }
-}
-
-/// The number of steps that a line of a header allows.
-fn line_steps(line: &[u8]) -> Option<u64>
-    ensures { result ≡ steps_line line.now }
-{
-    match line {
-        [
-            b'#',
-            b'!',
-            b' ',
-            b's',
-            b't',
-            b'e',
-            b'p',
-            b's',
-            b' ',
-            rest @ ..,
-        ] => allowed_steps(rest),
-        _ => None,
     }
 }
 

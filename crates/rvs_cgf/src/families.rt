@@ -13,7 +13,7 @@ use crate::place::{At, at_key};
 use crate::refusal::CgfRefusal;
 use crate::walk::{Taken, add, is_shaped, refusal, skip};
 use rvs_abstract::{Call, Families, Family4, len, read_call, value};
-use rvs_base::{Fault, NoMemory, Text, release};
+use rvs_base::{Fault, NoMemory, Text, beside, release};
 use rvs_expr::{Expr, NumName, parse_num};
 use rvs_points::{CgfKind, Kind, Meaning, Point};
 use rvs_tree::Tree;
@@ -54,13 +54,8 @@ fn add_value(
     ensures { AnswersWith taken_view result
         (spec.add (place_view place.entry) (spec.value_point var value) (taken_view taken)) }
 {
-    match value_point(alloc, var, value) {
-        Ok(point) => add(alloc, place, point, taken),
-        Err(NoMemory) => {
-            release(taken);
-            Err(Fault::NoMemory)
-        }
-    }
+    let (point, taken) = beside(value_point(alloc, var, value), taken)?;
+    add(alloc, place, point, taken)
 }
 
 /// The points, and the k-th value of a family.
@@ -143,22 +138,17 @@ fn add_values(
     var: NumName,
     value: i64,
     other: NumName,
-    beside: i64,
+    second: i64,
     taken: Taken,
 ) -> Result<Taken, Fault<CgfRefusal>>
     requires first { unsigned_abs value ≤ 2 ^ 32 }
-    requires second { unsigned_abs beside ≤ 2 ^ 32 }
+    requires second { unsigned_abs second ≤ 2 ^ 32 }
     ensures { AnswersWith taken_view result
-        (spec.add (place_view place.entry) (spec.pair_point var value other beside)
+        (spec.add (place_view place.entry) (spec.pair_point var value other second)
         (taken_view taken)) }
 {
-    match pair_point(alloc, var, value, other, beside) {
-        Ok(point) => add(alloc, place, point, taken),
-        Err(NoMemory) => {
-            release(taken);
-            Err(Fault::NoMemory)
-        }
-    }
+    let (point, taken) = beside(pair_point(alloc, var, value, other, second), taken)?;
+    add(alloc, place, point, taken)
 }
 
 /// The points, and the j-th value of one family with the k-th of another.

@@ -1,5 +1,5 @@
 -- The lists are built label by label.
-use Rattle.std.proofs.Common.{◌≡◌, ℕ, zero, suc, ◌+◌, ◌<◌, Bool, true, false, cond, List, []}
+use Rattle.std.proofs.Common.{◌≡◌, ℕ, zero, suc, ◌+◌, ◌<◌, Bool, true, false, List, []}
 use Rattle.std.proofs.Common.{◌∷◌, ◌++◌, refl, sym, ap, ◌∙◌, length, drop, get_or, replicate, arith}
 use Rattle.std.proofs.Common.{append_assoc, length-append}
 use Rattle.std.proofs.lemmas.List.{length-map}
@@ -82,11 +82,16 @@ slots_more passes labels slots slots' k first next d h e n =
     grind (arith, append_assoc, places-append, aims_more)
 
 -- the points of one label by its mnemonics
-pub places_label : (key : ListKey) (label : Label) (first : ℕ) (has : Bool) → label.selected ≡ true
-    → has ≡ admits key label.ops
-    → cond has (places_in key first (map point_view label.points)) []
+pub places_admitted : (key : ListKey) (label : Label) (first : ℕ) → label.selected ≡ true
+    → admits key label.ops ≡ true
+    → places_in key first (map point_view label.points)
     ≡ places_for (is_for key) first (aims_of_label (label_view label))
-places_label key label first has s h = grind (arith, places_has, places_lacks)
+places_admitted key label first s h = grind (arith, places_has)
+
+pub places_barred : (key : ListKey) (label : Label) (first : ℕ) → label.selected ≡ true
+    → admits key label.ops ≡ false
+    → places_for (is_for key) first (aims_of_label (label_view label)) ≡ []
+places_barred key label first s h = grind (arith, places_lacks)
 
 -- how many points a label has
 pub label_length : (label : Label) → label.selected ≡ true

@@ -7,7 +7,7 @@ use Rattle.std.proofs.Common.{subst}
 use Rattle.std.proofs.Common.{◌∙◌, All, arith, length, get_or, rules}
 use Rattle.std.proofs.lemmas.Bool.Decides.{nat_tests}
 use Rattle.std.specs.Ordering.{int_eq}
-use Rattle.std.specs.Prelude.{nat_lt, option_map, unsigned_abs}
+use Rattle.std.specs.Prelude.{IfSome, nat_lt, option_map, unsigned_abs}
 use Rattle.rvs_points.proofs.Distinct.{both-ways}
 use Rattle.rvs_points.specs.PointView.{point_view}
 use Rattle.rvs_points.specs.Hits.{holds, is_register}
@@ -15,9 +15,11 @@ use Rattle.rvs_points.specs.declared.group.Kind.TheVariants as kind
 use Rattle.rvs_points.specs.declared.group.Label.{Label}
 use Rattle.rvs_expr.specs.Equated.{is_value}
 use Rattle.rvs_expr.specs.Meaning.{Table}
+use Rattle.rvs_expr_text.specs.declared.lexeme.NumName.{NumName}
 use Rattle.rvs_facts.specs.Facts.{facts_of}
 use Rattle.rvs_facts.specs.Mnemonics.{number}
 use Rattle.rvs_insn.specs.Fields.{Fields}
+use Rattle.rvs_insn.specs.declared.op.Op.{Op}
 use Rattle.rvs_index.specs.Buckets.{is_seen, register_bucket, visited, bucket_count}
 use Rattle.rvs_index.specs.Cells.{asked_at, asked_bucket, fact, may_hit, never, pair, raised_cell}
 use Rattle.rvs_index.specs.Cells.{sight}
@@ -25,11 +27,14 @@ use Rattle.rvs_index.specs.Cells.{Fits, HasCells, IsCell, IsCellFor, SaysValue}
 use Rattle.rvs_index.specs.Counting.{Aim, aims_in, hits_insn}
 use Rattle.rvs_index.specs.Index.{added_all, insns_key, is_for, raised}
 use Rattle.rvs_index.specs.Index.{IsIndex}
+use Rattle.rvs_index.specs.Shortcuts.{says}
 use Rattle.rvs_index.specs.State.{added}
 use Rattle.rvs_index.specs.declared.asked.Asked.{Asked}
 use Rattle.rvs_index.specs.declared.asked.Asked.TheVariants.{Rd, Rs1, Rs2, Rs1Val, Rs2Val, ImmVal}
 use Rattle.rvs_index.specs.declared.asked.Asked.TheVariants.{EaAlign}
 use Rattle.rvs_index.specs.declared.cell.Cell.{Cell}
+use Rattle.rvs_index.specs.declared.shortcut.Shortcut.{Shortcut}
+use Rattle.rvs_index.specs.declared.shortcut.Shortcut.TheVariants.{Number}
 use Rattle.rvs_index.specs.declared.slot.Slot.{Slot}
 use Rattle.rvs_index.proofs.Hitting.{added_length, added_low}
 use Rattle.rvs_index.proofs.Places.{added_bucket, none_added, slots_low}
@@ -49,6 +54,13 @@ register_says n o v h = grind arith
 -- a number is
 pub number_says : (z : ℤ) (o : Option ℤ) (v : ℤ) → o ≡ Some v → is_value z o ≡ int_eq z v
 number_says z o v h = ap (λ o. is_value z o) h ∙ int_turned v z
+
+pub named_says : (q : Asked) (s : Slot) (name : NumName) (z : ℤ) → s.shortcut ≡ Some (Number name z)
+    → ((t : Table) → fact q t ≡ t.num name) → SaysValue q s z
+named_says q s name z is named op t v f =
+    subst (λ (o : Option Shortcut). IfSome o (λ k. (op : Op) (t : Table)
+    → holds (point_view s.point.now) op t ≡ says k op t)) is s.same op t
+    ∙ number_says z (t.num name) v (sym (named t) ∙ f)
 
 -- ---- what a cell adds
 pub not_never : (z : ℤ) → unsigned_abs z ≤ 2 ^ 32 → int_eq never z ≡ false

@@ -1,13 +1,14 @@
 -- Entries add what the cells of registers add.
-use Rattle.std.proofs.Common.{◌≡◌, ℕ, ℤ, pos, ◌+◌, ◌*◌, ◌/◌, ◌%◌, ◌<◌, true}
+use Rattle.std.proofs.Common.{◌≡◌, ◌≢◌, ℕ, ℤ, pos, ◌+◌, ◌-◌, ◌*◌, ◌/◌, ◌%◌, ◌<◌, true}
 use Rattle.std.proofs.Common.{false, List, [], ◌∷◌, ◌++◌, refl, sym, subst, arith, length}
 use Rattle.std.proofs.Common.{get_or}
+use Rattle.std.proofs.lemmas.Bool.Decides.{nat_tests}
 use Rattle.std.specs.Ordering.{int_eq}
 use Rattle.rvs_points.proofs.Distinct.{both-ways}
 use Rattle.rvs_index.specs.Buckets.{bucket_count}
 use Rattle.rvs_insn.specs.Table.{op_count}
 use Rattle.rvs_index.specs.Cells.{asked_bucket, HasCells, IsCell}
-use Rattle.rvs_index.specs.Entries.{entry_at, is_field, look, register_count}
+use Rattle.rvs_index.specs.Entries.{is_field, is_look, look, register_count}
 use Rattle.rvs_index.specs.Entries.{HasEntries, IsEntry, IsEntryAt}
 use Rattle.rvs_index.specs.declared.asked.Asked.{Asked}
 use Rattle.rvs_index.specs.declared.asked.Asked.TheVariants.{Rd, Rs1, Rs2}
@@ -21,6 +22,10 @@ use Rattle.rvs_index.proofs.Marks.{any_default, pushed_each}
 pub looks : (c : Cell) (z : ℤ) → IsEntry c z look
 looks c z = grind (arith, both-ways)
 
+-- one that doesn't
+pub near_look : (e : ℕ) → e ≢ look → is_look e ≡ false
+near_look e h = grind (arith, nat_tests)
+
 -- one that names nothing
 pub none_said : (c : Cell) (z : ℤ) → c.more ≡ false → int_eq c.second z ≡ false
     → int_eq c.first z ≡ false → IsEntry c z 0
@@ -28,8 +33,8 @@ none_said c z m s f = grind arith
 
 -- one that names a point
 pub one_said : (c : Cell) (z : ℤ) (e : ℕ) → c.more ≡ false → int_eq c.second z ≡ false
-    → int_eq c.first z ≡ true → e ≡ entry_at c.first_at → IsEntry c z e
-one_said c z e m s f is = grind arith
+    → int_eq c.first z ≡ true → c.first_at < look - 1 → e ≡ c.first_at + 1 → IsEntry c z e
+one_said c z e m s f low is = grind arith
 
 -- one more
 pub more_entries : (cells : List Cell) (es es' : List ℕ) (n e : ℕ) → HasEntries cells es

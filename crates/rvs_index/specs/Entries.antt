@@ -1,7 +1,6 @@
 -- The points that say registers, by their places among the counts alone.
-use Rattle.std.specs.Prelude.{◌≡◌, ℕ, zero, suc, ℤ, pos, ◌+◌, ◌-◌, ◌*◌, ◌/◌, ◌%◌, ◌<◌, ◌≤◌, ◌==◌}
-use Rattle.std.specs.Prelude.{nat_lt, Bool, true, false, if◌then◌else◌, List, length}
-use Rattle.std.specs.Prelude.{slice_index_or}
+use Rattle.std.specs.Prelude.{◌≡◌, ℕ, zero, suc, ℤ, pos, ◌+◌, ◌*◌, ◌/◌, ◌%◌, ◌<◌, ◌≤◌, ◌==◌}
+use Rattle.std.specs.Prelude.{Bool, true, false, List, length, slice_index_or}
 use Rattle.rvs_index.specs.Buckets.{bucket_count}
 use Rattle.rvs_index.specs.Cells.{raised_cell}
 use Rattle.rvs_index.specs.Index.{raised}
@@ -26,10 +25,6 @@ look = 4294967295
 
 abbrev pub is_look : ℕ → Bool
 is_look e = e == look
-
--- the entry of a point at a place
-abbrev pub entry_at : ℕ → ℕ
-entry_at at = if nat_lt at (look - 1) then at + 1 else look
 
 -- the counts after an entry: 0 names no point
 abbrev pub raised_entry : ℕ → List ℕ → List ℕ

@@ -11,13 +11,6 @@ use crate::cell::Cell;
 use rvs_base::{Items, NoMemory};
 use rvs_insn::OP_COUNT;
 
-/// Whether both are so, or neither is.
-fn agree(left: bool, right: bool) -> bool
-    ensures { result ≡ spec.agree left right }
-{
-    if left { right } else { !right }
-}
-
 /// Whether two cells say the same.
 fn is_same(left: &Cell, right: &Cell) -> bool
     ensures { result ≡ spec.is_same left.now right.now }
@@ -26,7 +19,7 @@ fn is_same(left: &Cell, right: &Cell) -> bool
         && left.first_at == right.first_at
         && left.second == right.second
         && left.second_at == right.second_at
-        && agree(left.more, right.more)
+        && left.more == right.more
 }
 
 /// Whether the cells of two mnemonics are alike.
@@ -48,22 +41,6 @@ fn is_alike(cells: &[Cell], left: usize, right: usize) -> bool
     true
 }
 
-/// The mnemonic whose cells are those of `next`: `first` where they are alike.
-#[tactic(auto, using(crate::proofs::Blocks::alike_self))]
-fn block_of(cells: &[Cell], first: usize, next: usize) -> usize
-    requires all { length cells.now ≡ op_count * bucket_count }
-    requires first { first < op_count }
-    requires next { next < op_count }
-    ensures low { result < op_count }
-    ensures alike { AreAlike bucket_count cells.now result next }
-{
-    if is_alike(cells, first, next) {
-        first
-    } else {
-        next
-    }
-}
-
 /// For each mnemonic, one whose cells are its own.
 #[tactic(auto, using(crate::proofs::Blocks::more_blocks))]
 pub(crate) fn fill_blocks(blocks: &mut Items<usize>, cells: &[Cell]) -> Result<(), NoMemory>
@@ -74,7 +51,9 @@ pub(crate) fn fill_blocks(blocks: &mut Items<usize>, cells: &[Cell]) -> Result<(
 {
     let mut first: usize = 0;
     for next in 0..OP_COUNT {
-        first = block_of(cells, first, next);
+        if !is_alike(cells, first, next) {
+            first = next;
+        }
         blocks.push(first)?;
     }
     Ok(())

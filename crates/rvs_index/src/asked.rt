@@ -1,5 +1,6 @@
 // The facts whose values points say.
-ghost use Rattle.std.specs.Prelude.{◌≡◌, ◌<◌, IfSome};
+ghost use Rattle.std.specs.Prelude.{◌≡◌, ◌<◌, IfSome, true};
+ghost use Rattle.rvs_expr.specs.Meaning.{Table};
 ghost use Rattle.rvs_index.specs.Buckets.{bucket_count};
 ghost use Rattle.rvs_index.specs.Cells as spec;
 
@@ -67,19 +68,38 @@ pub(crate) fn asked_bucket(asked: Asked, value: i64) -> usize
     }
 }
 
+/// Whether a fact is the number of this name.
+pub(crate) fn is_named(asked: Asked, name: NumName) -> bool
+    ensures { result ≡ true → (t : Table) → spec.fact asked t ≡ t.num name }
+{
+    matches!(
+        (asked, name),
+        (Asked::Rs1Val, NumName::Rs1Val)
+            | (Asked::Rs2Val, NumName::Rs2Val)
+            | (Asked::ImmVal, NumName::ImmVal)
+            | (Asked::EaAlign, NumName::EaAlign)
+    )
+}
+
 /// The value that a point says of a fact.
-#[tactic(auto, using(crate::proofs::Cells::register_says, crate::proofs::Cells::number_says))]
+#[tactic(auto, using(crate::proofs::Cells::register_says, crate::proofs::Cells::named_says))]
 pub(crate) fn said(asked: Asked, slot: &Slot<'_>) -> Option<i64>
     ensures { IfSome result (spec.SaysValue asked slot.now) }
 {
-    match (asked, slot.shortcut) {
-        (Asked::Rd, Some(Shortcut::Register(RegName::Rd, number))) => Some(i64::from(number)),
-        (Asked::Rs1, Some(Shortcut::Register(RegName::Rs1, number))) => Some(i64::from(number)),
-        (Asked::Rs2, Some(Shortcut::Register(RegName::Rs2, number))) => Some(i64::from(number)),
-        (Asked::Rs1Val, Some(Shortcut::Number(NumName::Rs1Val, value))) => Some(value),
-        (Asked::Rs2Val, Some(Shortcut::Number(NumName::Rs2Val, value))) => Some(value),
-        (Asked::ImmVal, Some(Shortcut::Number(NumName::ImmVal, value))) => Some(value),
-        (Asked::EaAlign, Some(Shortcut::Number(NumName::EaAlign, value))) => Some(value),
+    match slot.shortcut {
+        Some(Shortcut::Register(name, number)) => match (asked, name) {
+            (Asked::Rd, RegName::Rd) => Some(i64::from(number)),
+            (Asked::Rs1, RegName::Rs1) => Some(i64::from(number)),
+            (Asked::Rs2, RegName::Rs2) => Some(i64::from(number)),
+            _ => None,
+        },
+        Some(Shortcut::Number(name, value)) => {
+            if is_named(asked, name) {
+                Some(value)
+            } else {
+                None
+            }
+        },
         _ => None,
     }
 }

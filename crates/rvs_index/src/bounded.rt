@@ -6,24 +6,10 @@ ghost use Rattle.rvs_insn.specs.declared.op.Op as mnemonic;
 ghost use Rattle.rvs_index.specs.Cells.{AreBound, AsksValue, Covers, fact};
 ghost use Rattle.rvs_index.specs.Shortcuts.{says};
 
-use crate::asked::{Asked, said};
+use crate::asked::{Asked, is_named, said};
 use crate::cell::NEVER;
 use crate::shortcut::Shortcut;
 use crate::slot::Slot;
-use rvs_expr::NumName;
-
-/// Whether a fact is the number of this name.
-fn is_named(asked: Asked, name: NumName) -> bool
-    ensures { result ≡ true → (t : Table) → fact asked t ≡ t.num name }
-{
-    matches!(
-        (asked, name),
-        (Asked::Rs1Val, NumName::Rs1Val)
-            | (Asked::Rs2Val, NumName::Rs2Val)
-            | (Asked::ImmVal, NumName::ImmVal)
-            | (Asked::EaAlign, NumName::EaAlign)
-    )
-}
 
 /// The value of a fact without which it isn't so.
 #[tactic(auto, using(crate::proofs::Bounding::valued_asks, crate::proofs::Bounding::first_asks, crate::proofs::Bounding::second_asks))]

@@ -1,5 +1,5 @@
 // Where a point is looked for.
-ghost use Rattle.std.specs.Prelude.{◌≡◌, ◌<◌, ◌≤◌, unsigned_abs};
+ghost use Rattle.std.specs.Prelude.{◌≡◌, ◌<◌};
 ghost use Rattle.rvs_points.specs.PointView.{point_view};
 ghost use Rattle.rvs_expr.specs.Meaning.{IsNarrowFormula};
 ghost use Rattle.rvs_expr.specs.TypedView.{view};
@@ -16,27 +16,16 @@ pub(crate) const BUCKETS: usize = 365;
 /// A multiple of 67 above 2^32.
 const LIFT: i64 = 67 << 26;
 
-/// The remainder of a number that a multiple of 67 lifts above 0, so that no branch asks for its
-/// sign.
-#[tactic(auto, using(crate::proofs::Lifts::lifted))]
-#[inline(always)]
-fn lifted(value: i64) -> usize
-    requires { unsigned_abs value ≤ 4496293888 }
-    ensures value { result ≡ spec.residue value }
-    ensures low { result < 67 }
-{
-    ((value + LIFT).unsigned_abs() % 67) as usize
-}
-
-/// A number's remainder by a prime.
-#[tactic(auto, using(crate::proofs::Seen::residue_low))]
+/// A number's remainder by a prime. A multiple of it lifts most numbers above 0, so that no branch
+/// asks for their sign.
+#[tactic(auto, using(crate::proofs::Lifts::lifted, crate::proofs::Seen::residue_low))]
 #[inline(always)]
 fn residue(value: i64) -> usize
     ensures value { result ≡ spec.residue value }
     ensures low { result < 67 }
 {
     if value >= -LIFT && value <= LIFT {
-        lifted(value)
+        ((value + LIFT).unsigned_abs() % 67) as usize
     } else {
         value.rem_euclid(67).unsigned_abs() as usize
     }
@@ -68,25 +57,6 @@ pub(crate) fn number_bucket(name: NumName, value: i64) -> usize
     }
 }
 
-fn equation_bucket(equation: Option<(NumName, i64)>) -> usize
-    ensures { result ≡ spec.equation_bucket equation }
-{
-    match equation {
-        None => 0,
-        Some((name, value)) => number_bucket(name, value),
-    }
-}
-
-/// Whether a name is the place of an address within its word.
-fn is_place(name: NumName) -> bool
-    ensures { result ≡ spec.is_place name }
-{
-    match name {
-        NumName::EaAlign => true,
-        _ => false,
-    }
-}
-
 /// An equation, where its number isn't 0 or is a place: how another number compares with 0 is a
 /// sign.
 fn but_zero(equation: Option<(NumName, i64)>) -> Option<(NumName, i64)>
@@ -94,13 +64,9 @@ fn but_zero(equation: Option<(NumName, i64)>) -> Option<(NumName, i64)>
 {
     match equation {
         None => None,
-        Some((name, value)) => {
-            if value == 0 && !is_place(name) {
-                None
-            } else {
-                Some((name, value))
-            }
-        },
+        Some((NumName::EaAlign, value)) => Some((NumName::EaAlign, value)),
+        Some((_, 0)) => None,
+        Some((name, value)) => Some((name, value)),
     }
 }
 
@@ -118,14 +84,18 @@ fn conjunct(formula: &Formula) -> Option<(NumName, i64)>
     }
 }
 
-/// The equation by whose number an expression is looked for.
-fn asked_by(formula: &Formula) -> Option<(NumName, i64)>
+/// The list of an expression, by the equation by whose number it is looked for.
+fn formula_bucket(formula: &Formula) -> usize
     requires { IsNarrowFormula (view formula.now) }
-    ensures { result ≡ spec.asked_by (view formula.now) }
+    ensures { result ≡ spec.equation_bucket (spec.asked_by (view formula.now)) }
 {
-    match formula {
+    let equation = match formula {
         Formula::Both(_, _) => conjunct(formula),
         _ => equation_of(formula, Free::new()),
+    };
+    match equation {
+        None => 0,
+        Some((name, value)) => number_bucket(name, value),
     }
 }
 
@@ -139,7 +109,7 @@ pub(crate) fn bucket_of(point: &Point) -> usize
         Meaning::OpIs(_) => 0,
         Meaning::RegIs(register) => register_bucket(point.kind, *register),
         Meaning::Regs(_) => 0,
-        Meaning::Nums(expr) => equation_bucket(asked_by(expr.formula(Free::new()))),
+        Meaning::Nums(expr) => formula_bucket(expr.formula(Free::new())),
         Meaning::Window(_) => BUCKETS,
     }
 }

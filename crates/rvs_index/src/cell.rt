@@ -1,11 +1,8 @@
 // Lists of at most two points, each by the value that it says.
-ghost use Rattle.std.specs.Prelude.{◌≡◌, ◌<◌, ◌≤◌, ◌%◌, ◌^◌, [], ◌∷◌, All, IfSome, List, OnOk};
-ghost use Rattle.std.specs.Prelude.{length};
-ghost use Rattle.std.specs.Prelude.{slice_index_or, true, vec_len};
-ghost use Rattle.rvs_index.specs.Buckets.{bucket_count};
+ghost use Rattle.std.specs.Prelude.{◌≡◌, ◌<◌, ◌≤◌, ◌^◌, [], ◌∷◌, All, IfSome, OnOk, length, true};
+ghost use Rattle.std.specs.Prelude.{vec_len};
 ghost use Rattle.rvs_index.specs.Cells as spec;
-ghost use Rattle.rvs_index.specs.Cells.{HasCells, IsCell, IsCellFor, asked_at};
-ghost use Rattle.rvs_index.specs.declared.slot.Slot.{Slot as Entry};
+ghost use Rattle.rvs_index.specs.Cells.{HasCells, IsCell, IsCellFor};
 
 use crate::asked::{Asked, asked_at, said};
 use crate::bounded::bound_of;
@@ -70,14 +67,6 @@ fn told(asked: Asked, slot: &Slot<'_>) -> Option<(i64, u32)>
     Some((value, at))
 }
 
-#[tactic(auto, using(crate::proofs::Cells::many_adds, crate::proofs::Cells::none_adds))]
-fn none(asked: Asked) -> Cell
-    ensures { IsCell asked [] result }
-{
-    let _ = asked;
-    pair(NEVER, 0, NEVER, 0)
-}
-
 #[tactic(auto, using(crate::proofs::Cells::many_adds, crate::proofs::Cells::one_adds))]
 fn one(asked: Asked, slot: &Slot<'_>) -> Cell
     ensures { IsCell asked (slot.now ∷ []) result }
@@ -118,35 +107,20 @@ fn more(asked: Asked, slots: &[Slot<'_>]) -> Cell
     }
 }
 
-fn cell_of(asked: Asked, slots: &[Slot<'_>]) -> Cell
-    ensures { IsCell asked slots.now result }
+/// The cell of a list for a fact; for none it says to look at the points.
+#[tactic(auto, using(crate::proofs::Cells::none_adds))]
+fn cell_of(asked: Option<Asked>, slots: &[Slot<'_>]) -> Cell
+    ensures { IsCellFor asked slots.now result }
 {
+    let Some(asked) = asked else {
+        return many();
+    };
     match slots {
-        [] => none(asked),
+        [] => pair(NEVER, 0, NEVER, 0),
         [first] => one(asked, first),
         [first, second] => two(asked, first, second),
         _ => more(asked, slots),
     }
-}
-
-/// The cell of a list for a fact; for none it says to look at the points.
-fn cell_for(asked: Option<Asked>, slots: &[Slot<'_>]) -> Cell
-    ensures { IsCellFor asked slots.now result }
-{
-    match asked {
-        None => many(),
-        Some(asked) => cell_of(asked, slots),
-    }
-}
-
-/// The cell of the list of this number.
-fn cell_at(lists: &[Items<Slot<'_>>], number: usize) -> Cell
-    requires { number < length lists.now }
-    ensures { (d : List Entry) →
-        IsCellFor (asked_at (number % bucket_count)) (slice_index_or lists.now number d) result }
-{
-    let slots = lists[number].as_slice();
-    cell_for(asked_at(number % BUCKETS), slots)
 }
 
 /// The cells of all lists.
@@ -156,7 +130,8 @@ pub(crate) fn fill_cells(cells: &mut Items<Cell>, lists: &[Items<Slot<'_>>]) -> 
     ensures all { OnOk result (length cells.new ≡ length lists.now) }
 {
     for number in 0..lists.len() {
-        cells.push(cell_at(lists, number))?;
+        let slots = lists[number].as_slice();
+        cells.push(cell_of(asked_at(number % BUCKETS), slots))?;
     }
     Ok(())
 }

@@ -1,5 +1,5 @@
 // The cross points by their number of places and their first mnemonic.
-ghost use Rattle.std.specs.Prelude.{◌≡◌, ◌≤◌, ◌<◌, ◌^◌, ◌++◌, ◌∷◌, [], All, IfOk, OnOk, cond, drop};
+ghost use Rattle.std.specs.Prelude.{◌≡◌, ◌≤◌, ◌<◌, ◌^◌, ◌++◌, ◌∷◌, [], All, IfOk, OnOk, cond};
 ghost use Rattle.std.specs.Prelude.{length, ◌*◌, ◌==◌};
 ghost use Rattle.std.specs.List.{list_any};
 ghost use Rattle.rvs_points.specs.PointView.{label_view, meaning_view};
@@ -132,8 +132,13 @@ fn list_of<'g>(
     ensures { IfOk result (λ slots. spec.places slots
         ≡ spec.places_for (spec.is_for (windows_key number)) 0 (aims_in labels.now)) }
 {
-    if is_among(lengths, number / OP_COUNT + 1) {
-        slots_of(alloc, labels, ListKey::of_windows(number))
+    let count = number / OP_COUNT + 1;
+    if is_among(lengths, count) {
+        let key = ListKey::Windows {
+            places: count,
+            mnemonic: number % OP_COUNT,
+        };
+        slots_of(alloc, labels, key)
     } else {
         Ok(Items::new(alloc))
     }
@@ -156,14 +161,6 @@ fn fill_lists<'g>(
         lists.push(list_of(alloc, labels, lengths, number)?)?;
     }
     Ok(())
-}
-
-/// The instructions from a place on.
-fn back_of(insns: &[Insn], at: usize) -> &[Insn]
-    requires { at ≤ length insns.now }
-    ensures { result.now ≡ drop at insns.now }
-{
-    &insns[at..]
 }
 
 impl<'g> Crosses<'g> {
@@ -223,7 +220,7 @@ impl<'g> Crosses<'g> {
             counts.old }
     {
         if count <= run.len() {
-            self.add_window(back_of(run, run.len() - count), counts);
+            self.add_window(&run[run.len() - count..], counts);
         }
     }
 

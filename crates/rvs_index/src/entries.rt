@@ -15,7 +15,7 @@ use rvs_base::{Items, NoMemory};
 use rvs_insn::OP_COUNT;
 
 /// The entry that says to look at the cell.
-const LOOK: u32 = u32::MAX;
+pub(crate) const LOOK: u32 = u32::MAX;
 
 /// How many entries a mnemonic has: one for each of 32 registers in each of three fields.
 pub(crate) const REGISTERS: usize = 96;
@@ -35,21 +35,6 @@ pub(crate) fn field_of(asked: Asked) -> usize
     }
 }
 
-/// Whether an entry says to look at the cell.
-#[inline(always)]
-pub(crate) fn is_look(entry: u32) -> bool
-    ensures { result ≡ spec.is_look entry }
-{
-    entry == LOOK
-}
-
-/// One more than the place of the only point.
-fn entry_at(at: u32) -> u32
-    ensures { result ≡ spec.entry_at at }
-{
-    if at < LOOK - 1 { at + 1 } else { LOOK }
-}
-
 /// What the cell of a register's list says: nothing; or one more than the place of its only point;
 /// or that it is to be looked at.
 #[tactic(auto, using(crate::proofs::Registers::looks, crate::proofs::Registers::one_said, crate::proofs::Registers::none_said))]
@@ -58,10 +43,12 @@ fn entry_of(cell: &Cell, register: i64) -> u32
 {
     if cell.more || cell.second == register {
         LOOK
-    } else if cell.first == register {
-        entry_at(cell.first_at)
-    } else {
+    } else if cell.first != register {
         0
+    } else if cell.first_at < LOOK - 1 {
+        cell.first_at + 1
+    } else {
+        LOOK
     }
 }
 

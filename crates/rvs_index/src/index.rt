@@ -16,7 +16,7 @@ ghost use Rattle.rvs_log.specs.Lines.{log_limit};
 use crate::asked::{Asked, asked_bucket};
 use crate::buckets::BUCKETS;
 use crate::cell::{Cell, add_cell, may_hit};
-use crate::entries::{REGISTERS, add_entry, field_of, is_look};
+use crate::entries::{LOOK, REGISTERS, add_entry, field_of};
 use crate::hits::add_insn;
 use crate::known_facts::{Known, take_facts};
 use crate::mark::{Head, PLACES, add_groups, add_groups_apart};
@@ -211,24 +211,6 @@ impl<'g> Index<'g> {
         }
     }
 
-    /// The same of a fact, where it is there.
-    #[inline(always)]
-    fn add_fact(&self, asked: Asked, value: Option<i64>, facts: &Known, counts: &mut [u64])
-        requires fact { cell.fact asked
-            (table_of facts.now.insn facts.now.first facts.now.second) ≡ value }
-        requires small { IfSome value (λ z. unsigned_abs z ≤ 2 ^ 32) }
-        requires fits { Fits (aims_in self.now) (2 ^ 41) counts.old }
-        ensures { counts.new ≡ added (λ a. is_seen (cell.sight asked
-            (table_of facts.now.insn facts.now.first facts.now.second)) a.point
-            && hits_insn a (Some facts.now.insn) facts.now.first facts.now.second)
-            (aims_in self.now) counts.old }
-    {
-        match value {
-            None => {},
-            Some(value) => self.add_value(asked, value, facts, counts),
-        }
-    }
-
     /// Whether points of the instruction's mnemonic say values of a fact. Where none does, its list
     /// adds nothing.
     #[inline(always)]
@@ -243,7 +225,7 @@ impl<'g> Index<'g> {
         self.wanted.as_slice()[number(insn.op)].has(asked)
     }
 
-    /// The same of a fact, where points say its values.
+    /// The same of a fact, where it is there and points say its values.
     #[inline(always)]
     fn add_asked(&self, asked: Asked, value: Option<i64>, facts: &Known, counts: &mut [u64])
         requires fact { cell.fact asked
@@ -256,7 +238,10 @@ impl<'g> Index<'g> {
             (aims_in self.now) counts.old }
     {
         if self.wants(asked, facts) {
-            self.add_fact(asked, value, facts, counts);
+            match value {
+                None => {},
+                Some(value) => self.add_value(asked, value, facts, counts),
+            }
         }
     }
 
@@ -275,25 +260,7 @@ impl<'g> Index<'g> {
         self.add_value(asked, value, &facts, counts);
     }
 
-    /// The same of the place, where there is an address.
-    #[inline(always)]
-    fn add_alignment(&self, facts: &Known, counts: &mut [u64])
-        requires fits { Fits (aims_in self.now) (2 ^ 41) counts.old }
-        ensures { counts.new ≡ added (λ a. is_seen (cell.sight fact.EaAlign
-            (table_of facts.now.insn facts.now.first facts.now.second)) a.point
-            && hits_insn a (Some facts.now.insn) facts.now.first facts.now.second)
-            (aims_in self.now) counts.old }
-    {
-        match facts.alignment() {
-            None => {},
-            Some(value) => match place_of(value) {
-                None => self.add_rare(Asked::EaAlign, value, *facts, counts),
-                Some(place) => self.add_place(place, facts, counts),
-            },
-        }
-    }
-
-    /// The same of the place, where points say it.
+    /// The same of the place, where there is an address and points say it.
     #[inline(always)]
     fn add_aligned(&self, facts: &Known, counts: &mut [u64])
         requires fits { Fits (aims_in self.now) (2 ^ 41) counts.old }
@@ -303,7 +270,13 @@ impl<'g> Index<'g> {
             (aims_in self.now) counts.old }
     {
         if self.wants(Asked::EaAlign, facts) {
-            self.add_alignment(facts, counts);
+            match facts.alignment() {
+                None => {},
+                Some(value) => match place_of(value) {
+                    None => self.add_rare(Asked::EaAlign, value, *facts, counts),
+                    Some(place) => self.add_place(place, facts, counts),
+                },
+            }
         }
     }
 
@@ -324,7 +297,7 @@ impl<'g> Index<'g> {
         let block = self.blocks.as_slice()[number(insn.op)];
         let place = 32 * field_of(asked) + usize::from(register);
         let entry = self.entries.as_slice()[block * REGISTERS + place];
-        if is_look(entry) {
+        if entry == LOOK {
             self.add_rare(asked, i64::from(register), *facts, counts);
         } else {
             add_entry(entry, counts);

@@ -86,30 +86,6 @@ pub(crate) fn take_facts(insn: Insn, first: u32, second: u32) -> Known
     }
 }
 
-impl Facts for Known {
-    ghost use Rattle.rvs_facts.specs.Facts.{facts_of};
-
-    ghost table = { λ k. facts_of k.insn k.first k.second };
-
-    fn reg(&self, name: RegName) -> Option<u8> {
-        match name {
-            RegName::Rd => self.rd,
-            RegName::Rs1 => self.rs1,
-            RegName::Rs2 => self.rs2,
-            _ => None,
-        }
-    }
-
-    fn num(&self, name: NumName) -> Option<i64> {
-        match name {
-            NumName::Rs1Val => self.rs1_val,
-            NumName::Rs2Val => self.rs2_val,
-            NumName::ImmVal => self.imm_val,
-            NumName::EaAlign => self.alignment(),
-        }
-    }
-}
-
 /// The same with the alignment, which is worked out once for all points of a list.
 #[derive(Clone, Copy)]
 pub(crate) struct Aligned {
@@ -135,13 +111,20 @@ impl Facts for Aligned {
     ghost table = { λ a. facts_of a.known.insn a.known.first a.known.second };
 
     fn reg(&self, name: RegName) -> Option<u8> {
-        self.known.reg(name)
+        match name {
+            RegName::Rd => self.known.rd,
+            RegName::Rs1 => self.known.rs1,
+            RegName::Rs2 => self.known.rs2,
+            _ => None,
+        }
     }
 
     fn num(&self, name: NumName) -> Option<i64> {
         match name {
+            NumName::Rs1Val => self.known.rs1_val,
+            NumName::Rs2Val => self.known.rs2_val,
+            NumName::ImmVal => self.known.imm_val,
             NumName::EaAlign => self.ea_align,
-            _ => self.known.num(name),
         }
     }
 }

@@ -20,7 +20,7 @@ use crate::taken::lacks_none;
 use rvs_base::{Items, NoMemory};
 use rvs_expr::NumName;
 use rvs_facts::number;
-use rvs_insn::{OP_COUNT, Op};
+use rvs_insn::OP_COUNT;
 use std::alloc::Global;
 
 /// What a point says, where that is signs: its place among the counts, and the bits of the signs.
@@ -59,18 +59,6 @@ pub enum Audience {
     Aligned(i64),
 }
 
-/// The mask of what says a mnemonic, where the instructions have no other.
-#[tactic(auto, using(crate::proofs::Marks::always_so))]
-fn always(mnemonic: usize, op: Op) -> Option<u32>
-    ensures { IfSome result (spec.SaysSigns (audience.Mnemonic mnemonic) (shortcut.Mnemonic op)) }
-{
-    if number(op) == mnemonic {
-        Some(1)
-    } else {
-        None
-    }
-}
-
 /// The mask of what says an address's place, where the instructions have no other.
 fn at_place(place: i64, value: i64) -> Option<u32>
     ensures { IfSome result (spec.SaysSigns (audience.Aligned place)
@@ -79,27 +67,26 @@ fn at_place(place: i64, value: i64) -> Option<u32>
     if place == value { Some(1) } else { None }
 }
 
-/// The mask of what says signs and an address's place, where the instructions have no other place.
-#[tactic(auto, using(crate::proofs::Marks::placed_says))]
-fn placed(place: i64, mask: u32, value: i64) -> Option<u32>
-    ensures { IfSome result (spec.SaysSigns (audience.Aligned place)
-        (shortcut.Valued mask EaAlign value)) }
-{
-    if place == value { Some(mask) } else { None }
-}
-
-/// The mask of the signs that say the same as a shortcut, of these instructions.
+/// The mask of the signs that say the same as a shortcut, of these instructions. They have no other
+/// mnemonic, or no other place of the address, than the list is for.
+#[tactic(auto, using(crate::proofs::Marks::always_so, crate::proofs::Marks::placed_says))]
 fn mask_of(audience: Audience, shortcut: Shortcut) -> Option<u32>
     ensures { IfSome result (spec.SaysSigns audience shortcut) }
 {
     match (audience, shortcut) {
         (_, Shortcut::Signs(mask)) => Some(mask),
-        (Audience::Mnemonic(mnemonic), Shortcut::Mnemonic(op)) => always(mnemonic, op),
+        (Audience::Mnemonic(mnemonic), Shortcut::Mnemonic(op)) => {
+            if number(op) == mnemonic {
+                Some(1)
+            } else {
+                None
+            }
+        },
         (Audience::Aligned(place), Shortcut::Number(NumName::EaAlign, value)) => {
             at_place(place, value)
         },
         (Audience::Aligned(place), Shortcut::Valued(mask, NumName::EaAlign, value)) => {
-            placed(place, mask, value)
+            if place == value { Some(mask) } else { None }
         },
         _ => None,
     }

@@ -24,27 +24,7 @@ fn is_hit<L: Ledger>(point: &Point, window: &[Insn], steps: &mut Steps<L>) -> bo
     }
 }
 
-/// Adds one to the counts of those that they match.
-fn add_hits<L: Ledger>(
-    slots: &[Slot<'_>],
-    window: &[Insn],
-    counts: &mut [u64],
-    steps: &mut Steps<L>,
-)
-    requires within { All (λ s. s.at < length counts.old) slots.now }
-    requires few { length slots.now ≤ length counts.old }
-    requires low { All (λ n. n ≤ 2 ^ 42) counts.old }
-    ensures { counts.new
-        ≡ raised_all (λ p. is_matched p.meaning window.now) (spec.places slots.now)
-        counts.old }
-{
-    for slot in slots {
-        let hit = is_hit(slot.point, window, steps);
-        raise(counts, slot.at, hit);
-    }
-}
-
-/// The same, with a counter of evaluations that no one reads.
+/// Adds one to the counts of those that they match, with a counter of steps that no one reads.
 fn add_counted<L: Ledger>(blank: Blank, slots: &[Slot<'_>], window: &[Insn], counts: &mut [u64])
     requires name { blank.name ≡ L.name }
     requires parts { blank.parts ≡ L.parts }
@@ -57,7 +37,10 @@ fn add_counted<L: Ledger>(blank: Blank, slots: &[Slot<'_>], window: &[Insn], cou
         counts.old }
 {
     let mut steps: Steps<L> = Steps::new(blank, Free::new());
-    add_hits(slots, window, counts, &mut steps);
+    for slot in slots {
+        let hit = is_hit(slot.point, window, &mut steps);
+        raise(counts, slot.at, hit);
+    }
 }
 
 /// Adds one to the counts of the points of a list that these instructions match.

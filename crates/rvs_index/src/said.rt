@@ -72,22 +72,6 @@ fn order_of(left: NumName, op: Comparison, right: NumName) -> Option<usize>
     }
 }
 
-/// The sign that says which remainder by 4 the immediate has.
-#[tactic(auto, unfolding(crate::specs::Signs::signs_of))]
-fn rest_of(rest: i128) -> Option<usize>
-    ensures says { IfSome result (λ k. (t : Table) →
-        spec.compares Equal (spec.by_four (t.num ImmVal)) (Some rest) ≡ spec.sign_at k t) }
-    ensures low { IfSome result (λ k. k < 31) }
-{
-    match rest {
-        0 => Some(27),
-        1 => Some(28),
-        2 => Some(29),
-        3 => Some(30),
-        _ => None,
-    }
-}
-
 /// The sign that says whether two registers are one.
 #[tactic(auto, unfolding(crate::specs::Signs::signs_of))]
 fn relation_of(left: RegName, equal: bool, right: RegName) -> Option<usize>
@@ -119,46 +103,8 @@ fn relation(left: RegName, equal: bool, right: RegName) -> Option<usize>
     }
 }
 
-fn number_test(name: NumName, op: Comparison, right: &Num) -> Option<usize>
-    ensures says { IfSome result (λ k. (t : Table) → holds t
-        (typed.numbers (typed.pair (typed.named name) op (num_view right.now)))
-        ≡ spec.sign_at k t) }
-    ensures low { IfSome result (λ k. k < 31) }
-{
-    match right {
-        Num::Literal(0) => sign_of(name, op),
-        Num::Literal(32) => shift_of(name, op),
-        Num::Name(other) => order_of(name, op, *other),
-        _ => None,
-    }
-}
-
-/// The sign that says whether a register is x0.
-#[tactic(auto, unfolding(crate::specs::Signs::signs_of))]
-fn zero_test(name: RegName, equal: bool, number: u8) -> Option<usize>
-    ensures says { IfSome result (λ k. (t : Table) → holds t (typed.registers
-        (typed.reg_pair (typed.register name) equal (typed.fixed number))) ≡ spec.sign_at k t) }
-    ensures low { IfSome result (λ k. k < 31) }
-{
-    match (name, equal, number) {
-        (RegName::Rd, true, 0) => Some(26),
-        _ => None,
-    }
-}
-
-fn register_test(name: RegName, equal: bool, right: Reg) -> Option<usize>
-    ensures says { IfSome result (λ k. (t : Table) → holds t (typed.registers
-        (typed.reg_pair (typed.register name) equal (reg_view right))) ≡ spec.sign_at k t) }
-    ensures low { IfSome result (λ k. k < 31) }
-{
-    match right {
-        Reg::Name(other) => relation(name, equal, other),
-        Reg::Fixed(number) => zero_test(name, equal, number),
-    }
-}
-
-/// The sign that says that a number's remainder is this one.
-#[tactic(auto, using(crate::proofs::Turned::rest_says))]
+/// The sign that says which remainder by 4 the immediate has.
+#[tactic(auto, using(crate::proofs::Turned::rest_says), unfolding(crate::specs::Signs::signs_of))]
 fn rest_test(part: &Num, divisor: u128, op: Comparison, right: &Num) -> Option<usize>
     ensures says { IfSome result (λ k. (t : Table) → holds t
         (typed.numbers (typed.pair (typed.remainder (num_view part.now) divisor) op
@@ -166,7 +112,13 @@ fn rest_test(part: &Num, divisor: u128, op: Comparison, right: &Num) -> Option<u
     ensures low { IfSome result (λ k. k < 31) }
 {
     match (part, divisor, op, right) {
-        (Num::Name(NumName::ImmVal), 4, Comparison::Equal, Num::Literal(rest)) => rest_of(*rest),
+        (Num::Name(NumName::ImmVal), 4, Comparison::Equal, Num::Literal(rest)) => match rest {
+            0 => Some(27),
+            1 => Some(28),
+            2 => Some(29),
+            3 => Some(30),
+            _ => None,
+        },
         _ => None,
     }
 }
@@ -177,19 +129,32 @@ fn number_pair(left: &Num, op: Comparison, right: &Num) -> Option<usize>
     ensures low { IfSome result (λ k. k < 31) }
 {
     match left {
-        Num::Name(name) => number_test(*name, op, right),
+        Num::Name(name) => match right {
+            Num::Literal(0) => sign_of(*name, op),
+            Num::Literal(32) => shift_of(*name, op),
+            Num::Name(other) => order_of(*name, op, *other),
+            _ => None,
+        },
         Num::Remainder(part, divisor) => rest_test(part, *divisor, op, right),
         _ => None,
     }
 }
 
+/// The sign that says whether two registers are one, or one is x0.
+#[tactic(auto, unfolding(crate::specs::Signs::signs_of))]
 fn register_pair(left: Reg, equal: bool, right: Reg) -> Option<usize>
     ensures says { IfSome result (λ k. (t : Table) → holds t (typed.registers
         (typed.reg_pair (reg_view left) equal (reg_view right))) ≡ spec.sign_at k t) }
     ensures low { IfSome result (λ k. k < 31) }
 {
     match left {
-        Reg::Name(name) => register_test(name, equal, right),
+        Reg::Name(name) => match right {
+            Reg::Name(other) => relation(name, equal, other),
+            Reg::Fixed(number) => match (name, equal, number) {
+                (RegName::Rd, true, 0) => Some(26),
+                _ => None,
+            },
+        },
         _ => None,
     }
 }
@@ -229,18 +194,6 @@ fn chain_said(before: &RegChain, equal: bool, right: Reg) -> Option<Shortcut>
     }
 }
 
-/// The number that a formula says.
-fn number_said(formula: &Formula) -> Option<Shortcut>
-    requires { IsNarrowFormula (view formula.now) }
-    ensures { IfSome result (λ s. (op : mnemonic.Op) (t : Table) →
-        holds t (view formula.now) ≡ says s op t) }
-{
-    match equation_of(formula, Free::new()) {
-        None => None,
-        Some((name, value)) => Some(Shortcut::Number(name, value)),
-    }
-}
-
 /// The sign or the number that a formula says.
 fn one_said(formula: &Formula) -> Option<Shortcut>
     requires { IsNarrowFormula (view formula.now) }
@@ -248,7 +201,10 @@ fn one_said(formula: &Formula) -> Option<Shortcut>
         holds t (view formula.now) ≡ says s op t) }
 {
     match sign_said(formula) {
-        None => number_said(formula),
+        None => match equation_of(formula, Free::new()) {
+            None => None,
+            Some((name, value)) => Some(Shortcut::Number(name, value)),
+        },
         Some(sign) => Some(Shortcut::Signs(bit_of(sign))),
     }
 }

@@ -1,10 +1,8 @@
 // Points that say a mnemonic, a register, or numbers and signs.
 ghost use Rattle.std.specs.Prelude.{◌≡◌, IfSome};
 ghost use Rattle.rvs_points.specs.PointView.{point_view};
-ghost use Rattle.rvs_points.specs.Points.{reg_is};
 ghost use Rattle.rvs_points.specs.Hits as hit;
 ghost use Rattle.rvs_index.specs.Shortcuts as spec;
-ghost use Rattle.rvs_index.specs.Signs as sign;
 ghost use Rattle.rvs_index.specs.Signs.{signs_of, signs_word};
 ghost use Rattle.rvs_expr.specs.Equated as equated;
 ghost use Rattle.rvs_expr.specs.Meaning.{Table};
@@ -56,16 +54,6 @@ fn is_register(number: u8, found: Option<u8>) -> bool
     }
 }
 
-/// Whether these facts, which have these signs, have all of a mask.
-#[inline(always)]
-fn has_signs<F: Facts>(facts: &F, signs: u32, mask: u32) -> bool
-    requires { signs ≡ signs_word (signs_of (F.table facts.now)) }
-    ensures { result ≡ sign.has_signs mask (F.table facts.now) }
-{
-    let _ = facts;
-    has_all(signs, mask)
-}
-
 impl Shortcut {
     /// Whether it is so of an instruction of this mnemonic, with these facts and their signs.
     #[inline(always)]
@@ -77,28 +65,16 @@ impl Shortcut {
             Shortcut::Mnemonic(mnemonic) => is_same(mnemonic, op),
             Shortcut::Register(name, number) => is_register(number, facts.reg(name)),
             Shortcut::Number(name, value) => is_value(value, facts.num(name)),
-            Shortcut::Signs(mask) => has_signs(facts, signs, mask),
+            Shortcut::Signs(mask) => has_all(signs, mask),
             Shortcut::Valued(mask, name, value) => {
-                is_value(value, facts.num(name)) && has_signs(facts, signs, mask)
+                is_value(value, facts.num(name)) && has_all(signs, mask)
             },
             Shortcut::Values(mask, name, other, value, second) => {
                 is_value(value, facts.num(name))
                     && is_value(second, facts.num(other))
-                    && has_signs(facts, signs, mask)
+                    && has_all(signs, mask)
             },
         }
-    }
-}
-
-fn register(kind: Kind, number: u8) -> Option<Shortcut>
-    ensures { IfSome result (λ s. (op : mnemonic.Op) (t : Table) →
-        hit.is_meant kind (reg_is number) op t ≡ spec.says s op t) }
-{
-    match kind {
-        Kind::Rd => Some(Shortcut::Register(RegName::Rd, number)),
-        Kind::Rs1 => Some(Shortcut::Register(RegName::Rs1, number)),
-        Kind::Rs2 => Some(Shortcut::Register(RegName::Rs2, number)),
-        _ => None,
     }
 }
 
@@ -109,7 +85,12 @@ pub(crate) fn shortcut_of(point: &Point) -> Option<Shortcut>
 {
     match &point.meaning {
         Meaning::OpIs(mnemonic) => Some(Shortcut::Mnemonic(*mnemonic)),
-        Meaning::RegIs(number) => register(point.kind, *number),
+        Meaning::RegIs(number) => match point.kind {
+            Kind::Rd => Some(Shortcut::Register(RegName::Rd, *number)),
+            Kind::Rs1 => Some(Shortcut::Register(RegName::Rs1, *number)),
+            Kind::Rs2 => Some(Shortcut::Register(RegName::Rs2, *number)),
+            _ => None,
+        },
         Meaning::Nums(expr) => match expr.equation(Free::new()) {
             None => said_by(expr.formula(Free::new())),
             Some((name, value)) => Some(Shortcut::Number(name, value)),

@@ -1,10 +1,9 @@
 // The points that an instruction of a mnemonic may hit, alone or as the first of several.
 ghost use Rattle.std.specs.Prelude.{◌≡◌, ◌==◌, ◌<◌, ◌+◌, ◌^◌, ◌++◌, ◌∷◌, [], IfOk, OnOk};
-ghost use Rattle.std.specs.Prelude.{if◌then◌else◌, length, map};
+ghost use Rattle.std.specs.Prelude.{length, map};
 ghost use Rattle.rvs_points.specs.PointView.{label_view, meaning_view, point_view};
 ghost use Rattle.rvs_cross.specs.CrossView.{cross_view};
 ghost use Rattle.rvs_cross.specs.First.{first_ops as first_of};
-ghost use Rattle.rvs_facts.specs.Mnemonics as spec;
 ghost use Rattle.rvs_index.specs.Counting.{aims_in, aims_of_label};
 ghost use Rattle.rvs_index.specs.Index as index;
 ghost use Rattle.rvs_index.specs.Index.{has_number, is_for, lists_number, meaning_fits, places};
@@ -20,19 +19,12 @@ use rvs_insn::Op;
 use rvs_points::{Label, Meaning, Point};
 use std::alloc::Global;
 
-/// Whether a mnemonic is the one of this number.
-fn is_number(mnemonic: usize, op: Op) -> bool
-    ensures { result ≡ (mnemonic == spec.number op) }
-{
-    mnemonic == number(op)
-}
-
 /// Whether an instruction of the mnemonic of this number may hit the point.
 fn fits(mnemonic: usize, point: &Point) -> bool
     ensures { result ≡ meaning_fits mnemonic (meaning_view point.now.meaning) }
 {
     match &point.meaning {
-        Meaning::OpIs(op) => is_number(mnemonic, *op),
+        Meaning::OpIs(op) => mnemonic == number(*op),
         _ => true,
     }
 }
@@ -114,25 +106,6 @@ fn add_points<'g>(
     Ok(())
 }
 
-/// Adds them where the list admits the label.
-fn add_if<'g>(
-    slots: &mut Items<Slot<'g>>,
-    points: &'g [Point],
-    admitted: bool,
-    key: ListKey,
-    first: usize,
-) -> Result<(), NoMemory>
-    requires room { first + length points.now < 2 ^ 63 }
-    ensures { OnOk result (places slots.new ≡ places slots.old
-        ++ (if admitted then places_in key first (map point_view points.now) else [])) }
-{
-    if admitted {
-        add_points(slots, points, key, first)
-    } else {
-        Ok(())
-    }
-}
-
 /// Whether the list of this key may have points of a label with these mnemonics.
 fn admits(key: ListKey, ops: &[Op]) -> bool
     ensures { result ≡ index.admits key ops.now }
@@ -145,7 +118,7 @@ fn admits(key: ListKey, ops: &[Op]) -> bool
 }
 
 /// Adds the points of a label to the list of this key, and gives the place of the next label's.
-#[tactic(auto, using(crate::proofs::Built::places_label, crate::proofs::Built::label_length))]
+#[tactic(auto, using(crate::proofs::Built::places_admitted, crate::proofs::Built::label_length))]
 fn add_label<'g>(
     slots: &mut Items<Slot<'g>>,
     label: &'g Label,
@@ -163,9 +136,12 @@ fn add_label<'g>(
         return Ok(first);
     }
     let points = label.points.as_slice();
-    let admitted = admits(key, label.ops.as_slice());
-    add_if(slots, points, admitted, key, first)?;
-    Ok(first + points.len())
+    let next = first + points.len();
+    if !admits(key, label.ops.as_slice()) {
+        return Ok(next);
+    }
+    add_points(slots, points, key, first)?;
+    Ok(next)
 }
 
 /// The same list in no more memory than it needs, so that lists lie close together.

@@ -38,22 +38,13 @@ fn four(value: Option<i64>) -> u32
 {
     match value {
         None => 0,
-        Some(value) => remainder_bit(value.rem_euclid(4)),
-    }
-}
-
-/// The bit of a remainder by 4.
-#[inline(always)]
-fn remainder_bit(rest: i64) -> u32
-    ensures value { result ≡ spec.rest_bits rest }
-    ensures low { result ≤ 15 }
-{
-    match rest {
-        0 => 1,
-        1 => 2,
-        2 => 4,
-        3 => 8,
-        _ => 0,
+        Some(value) => match value.rem_euclid(4) {
+            0 => 1,
+            1 => 2,
+            2 => 4,
+            3 => 8,
+            _ => 0,
+        },
     }
 }
 

@@ -1,11 +1,14 @@
 -- Entry after entry of a map.
 use Rattle.std.proofs.Common.{◌≡◌, ℕ, ◌+◌, true, List, [], ◌∷◌, ◌++◌, Option, Some, None, map}
+use Rattle.std.proofs.Common.{Bor, if◌then◌else◌, bytes_eq}
 use Rattle.std.proofs.Common.{option_map, slice_get, take, flat_map, ap, sym, ◌∙◌, append-nil}
 use Rattle.std.proofs.Common.{arith}
+use Rattle.std.specs.List.{list_any}
 use Rattle.std.proofs.lemmas.List.{take_more}
 use Rattle.std.proofs.lemmas.Option.{slice_get-map, slice_get_within, get_or_from_slice_get}
 use Rattle.std.proofs.lemmas.Grind.{flat_map-append}
 use Rattle.rvs_tree.specs.Data.{Data, Pairs, own_pairs, keys_of, members_of, is_map}
+use Rattle.rvs_isa.specs.Refusal.{path_text}
 
 -- what the first entries of a map add
 abbrev pub first_entries : (List ℕ → Data → List (List ℕ)) → ℕ → Data → List (List ℕ)
@@ -55,3 +58,8 @@ first-more_keys unread i d k e =
     let found = some_value (slice_get (own_pairs d) i) k
     (sym (slice_get-map (λ p. p.0) (own_pairs d) i) ∙ e) in
     more_pairs (λ key _. unread key) i (own_pairs d) k found.0 found.1
+
+-- what is unread under a key of the hart, where these keys are read there
+abbrev pub unread_of_inner : List ℕ → List ℕ → List (Bor (List ℕ)) → List ℕ → List (List ℕ)
+unread_of_inner hart name read key = if list_any (λ k. bytes_eq key k.now) read then []
+    else path_text (hart ∷ name ∷ key ∷ []) ∷ []

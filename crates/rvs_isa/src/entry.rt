@@ -71,17 +71,9 @@ pub fn refusal(alloc: Global, path: &[&str], kind: IsaKind) -> Fault<IsaRefusal>
 /// # Errors
 ///
 /// [`NoMemory`].
+#[tactic(auto, using(crate::proofs::Paths::joined))]
 pub fn path_text(alloc: Global, path: &[&str]) -> Result<Text, NoMemory>
     ensures { IfOk result (λ t. t ≡ path_text (map (λ k. k.now) path.now)) }
 {
-    let mut text = Text::new(alloc);
-    let Some((first, rest)) = path.split_first() else {
-        return Ok(text);
-    };
-    text.push_str(first)?;
-    for key in rest {
-        text.push_str(".")?;
-        text.push_str(key)?;
-    }
-    Ok(text)
+    Ok(Text::from(path.join(alloc, ".")?))
 }

@@ -7,7 +7,6 @@ mod entry;
 mod isa_text;
 mod laws;
 mod misa;
-mod number;
 mod print;
 mod refusal;
 mod unread;

@@ -1,9 +1,11 @@
 // The entries that no check reads.
-ghost use Rattle.std.specs.Prelude.{◌≡◌, ◌++◌, ◌∷◌, [], IfOk, OnOk, map};
+ghost use Rattle.std.specs.Prelude.{◌≡◌, ◌++◌, ◌∷◌, [], if◌then◌else◌, IfOk, OnOk, map};
+ghost use Rattle.std.specs.List.{list_any};
+ghost use Rattle.std.specs.Str.{bytes_eq};
 ghost use Rattle.rvs_tree.specs.TreeView.{view};
 ghost use Rattle.rvs_isa.specs.Refusal.{path_text};
 ghost use Rattle.rvs_isa.specs.Unread.{unread, each_entry, is_checked, unread_of_root};
-ghost use Rattle.rvs_isa.specs.Unread.{unread_of_hart, unread_of_misa, unread_of_memory};
+ghost use Rattle.rvs_isa.specs.Unread.{unread_of_hart};
 
 use crate::entry::path_text;
 use rvs_base::{Items, NoMemory, Text};
@@ -81,9 +83,9 @@ fn add_of_hart(
         (paths.new ≡ paths.old ++ unread_of_hart hart.now key.now (view value.now)) }
 {
     if key == "misa" {
-        add_misa(alloc, paths, hart, value)
+        add_inner(alloc, paths, hart, "misa", &["reset-val"], value)
     } else if key == "memory_map" {
-        add_memory(alloc, paths, hart, value)
+        add_inner(alloc, paths, hart, "memory_map", &["text", "data"], value)
     } else if is_checked(key) {
         Ok(())
     } else {
@@ -94,72 +96,48 @@ fn add_of_hart(
 fn is_checked(key: &str) -> bool
     ensures { result ≡ is_checked key.now }
 {
-    key == "ISA"
-        || key == "supported_xlen"
-        || key == "physical_addr_sz"
-        || key == "hw_data_misaligned_support"
+    matches!(
+        key,
+        "ISA" | "supported_xlen" | "physical_addr_sz" | "hw_data_misaligned_support"
+    )
 }
 
-fn add_misa(
+/// Adds the entries of a map under a key of the hart, but for those under the keys that are read.
+fn add_inner(
     alloc: Global,
     paths: &mut Items<Text>,
     hart: &str,
+    name: &str,
+    read: &[&str],
     entries: &Tree,
 ) -> Result<(), NoMemory>
-    ensures { OnOk result (paths.new ≡ paths.old
-        ++ each_entry (λ key _. unread_of_misa hart.now key) (view entries.now)) }
+    ensures { OnOk result (paths.new ≡ paths.old ++ each_entry
+        (λ key _. if list_any (λ k. bytes_eq key k.now) read.now then []
+        else path_text (hart.now ∷ name.now ∷ key ∷ []) ∷ []) (view entries.now)) }
 {
     if entries.is_map() {
         for i in 0..entries.len() {
-            add_of_misa(alloc, paths, hart, entries.key(i))?;
+            add_of_inner(alloc, paths, hart, name, read, entries.key(i))?;
         }
     }
     Ok(())
 }
 
-fn add_of_misa(
+fn add_of_inner(
     alloc: Global,
     paths: &mut Items<Text>,
     hart: &str,
+    name: &str,
+    read: &[&str],
     key: &str,
-) -> Result<(), NoMemory>
-    ensures { OnOk result (paths.new ≡ paths.old ++ unread_of_misa hart.now key.now) }
-{
-    if key == "reset-val" {
-        Ok(())
-    } else {
-        add_path(alloc, paths, &[hart, "misa", key])
-    }
-}
-
-fn add_memory(
-    alloc: Global,
-    paths: &mut Items<Text>,
-    hart: &str,
-    entries: &Tree,
 ) -> Result<(), NoMemory>
     ensures { OnOk result (paths.new ≡ paths.old
-        ++ each_entry (λ key _. unread_of_memory hart.now key) (view entries.now)) }
+        ++ (if list_any (λ k. bytes_eq key.now k.now) read.now then []
+        else path_text (hart.now ∷ name.now ∷ key.now ∷ []) ∷ [])) }
 {
-    if entries.is_map() {
-        for i in 0..entries.len() {
-            add_of_memory(alloc, paths, hart, entries.key(i))?;
-        }
-    }
-    Ok(())
-}
-
-fn add_of_memory(
-    alloc: Global,
-    paths: &mut Items<Text>,
-    hart: &str,
-    key: &str,
-) -> Result<(), NoMemory>
-    ensures { OnOk result (paths.new ≡ paths.old ++ unread_of_memory hart.now key.now) }
-{
-    if key == "text" || key == "data" {
+    if read.contains(&key) {
         Ok(())
     } else {
-        add_path(alloc, paths, &[hart, "memory_map", key])
+        add_path(alloc, paths, &[hart, name, key])
     }
 }

@@ -1,12 +1,11 @@
 // What a single entry says.
 ghost use Rattle.std.specs.Prelude.{◌≡◌, option_map};
 ghost use Rattle.rvs_tree.specs.TreeView.{view};
-ghost use Rattle.rvs_isa.specs.Entries.{only_member, number_in, isa_in, has_text, is_xlen};
-ghost use Rattle.rvs_isa.specs.Entries.{address_size, truth_in};
+ghost use Rattle.rvs_isa.specs.Entries.{only_member, number_in, isa_in, is_xlen, truth_in};
 
 use crate::isa_text::{Extensions, read_isa_text};
-use crate::number::read_number;
 use crate::refusal::IsaKind;
+use rvs_base::natural_below;
 use rvs_tree::Tree;
 
 /// The member of a list of one.
@@ -20,14 +19,16 @@ pub fn only_member(tree: &Tree) -> Option<&Tree>
     }
 }
 
-/// The number that a scalar writes.
+/// The number below 2^32 that a scalar writes in decimal digits, or in `0x` and hexadecimal digits.
 pub fn number_in(tree: &Tree) -> Option<u32>
     ensures { result ≡ number_in (view tree.now) }
 {
-    if tree.is_scalar() {
-        read_number(tree.text())
-    } else {
-        None
+    if !tree.is_scalar() {
+        return None;
+    }
+    match natural_below(1 << 32, tree.text().as_bytes()) {
+        Some(number) => Some(number as u32),
+        None => None,
     }
 }
 
@@ -51,18 +52,8 @@ pub fn is_xlen(tree: &Tree) -> bool
     ensures { result ≡ is_xlen (view tree.now) }
 {
     match only_member(tree) {
-        Some(member) => has_text(member, "32"),
+        Some(member) => member.is_scalar() && member.text() == "32",
         None => false,
-    }
-}
-
-/// The number of address bits that a scalar writes, from 32 to 34.
-pub fn address_size(tree: &Tree) -> Option<u8>
-    ensures { result ≡ address_size (view tree.now) }
-{
-    match number_in(tree) {
-        Some(bits) if 32 <= bits && bits <= 34 => Some(bits as u8),
-        _ => None,
     }
 }
 
@@ -70,17 +61,12 @@ pub fn address_size(tree: &Tree) -> Option<u8>
 pub fn truth_in(tree: &Tree) -> Option<bool>
     ensures { result ≡ truth_in (view tree.now) }
 {
-    if has_text(tree, "true") || has_text(tree, "True") || has_text(tree, "TRUE") {
-        Some(true)
-    } else if has_text(tree, "false") || has_text(tree, "False") || has_text(tree, "FALSE") {
-        Some(false)
-    } else {
-        None
+    if !tree.is_scalar() {
+        return None;
     }
-}
-
-fn has_text(tree: &Tree, wanted: &str) -> bool
-    ensures { result ≡ has_text wanted.now (view tree.now) }
-{
-    tree.is_scalar() && tree.text() == wanted
+    match tree.text() {
+        "true" | "True" | "TRUE" => Some(true),
+        "false" | "False" | "FALSE" => Some(false),
+        _ => None,
+    }
 }

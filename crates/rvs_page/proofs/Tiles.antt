@@ -21,11 +21,14 @@ pieces-of number word class =
 pub two_tiles : (a b : ℕ)
     → told (Html (codes "<div><strong>") ∷ Number a
     ∷ Html (codes "</strong><span>instructions</span></div>\n<div><strong>") ∷ Number b
-    ∷ Html (codes "</strong><span>points hit</span></div>\n") ∷ [])
-    ≡ tile a (codes "instructions") [] ++ tile b (codes "points hit") []
+    ∷ Html (codes "</strong><span>points hit</span></div>\n</section>\n") ∷ [])
+    ≡ (tile a (codes "instructions") [] ++ tile b (codes "points hit") [])
+    ++ told (Html (codes "</section>\n") ∷ [])
 unfolding told piece_text tile
 two_tiles a b =
-    both (pieces-of a (codes "instructions") []) (pieces-of b (codes "points hit") []) refl refl
+    let p = pieces-of a (codes "instructions") [] in
+    let q = pieces-of b (codes "points hit") [] in
+    both (p ++ q) (Html (codes "</section>\n") ∷ []) (both p q refl refl) refl
 
 pub seven_tiles : (a b c d e f g : ℕ) (x y : List ℕ)
     → told (Html (codes "<section class=\"tiles\">\n<div><strong>") ∷ Number a

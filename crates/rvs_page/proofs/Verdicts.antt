@@ -1,5 +1,7 @@
 -- The verdict of a page.
-use Rattle.std.proofs.Common.{◌≡◌, Bool, true, false, cond, List, [], ◌∷◌, All, refl, arith}
+use Rattle.std.proofs.Common.{◌≡◌, ◌∙◌, ◌<◌, ◌≤◌, ◌+◌, ℕ, Bool, true, false, cond, List, [], ◌∷◌}
+use Rattle.std.proofs.Common.{All, refl, sym, ap, arith, drop, get_or, length}
+use Rattle.std.proofs.lemmas.List.{drop_more, drop_all}
 use Rattle.std.proofs.lemmas.Bool.{or_from}
 use Rattle.std.proofs.lemmas.List.Elements.{All-nil, All-cons, All-head, All-tail}
 use Rattle.std.specs.Prelude.{◌||◌}
@@ -74,3 +76,54 @@ pass_says_that_all_pass labels = (
   λ all. passes (list_any label_fails labels) (list_any label_is_open labels)
       (none-fails labels all) (none-open labels all),
 )
+
+fail-by : (a b : Bool) → by-tests a b ≡ verdict.Fail → a ≡ true
+fail-by a b e = grind arith
+
+pub some_fails : (labels : List Label) → verdict_of labels ≡ verdict.Fail
+    → list_any label_fails labels ≡ true
+unfolding verdict_of
+some_fails labels e = fail-by (list_any label_fails labels) (list_any label_is_open labels) e
+
+none-by : (a b : Bool) → (by-tests a b ≡ verdict.Fail → ⊥) → a ≡ false
+none-by true b other = absurd (other refl)
+none-by false b other = refl
+
+pub none_fails : (labels : List Label) → (verdict_of labels ≡ verdict.Fail → ⊥)
+    → list_any label_fails labels ≡ false
+unfolding verdict_of
+none_fails labels other =
+    none-by (list_any label_fails labels) (list_any label_is_open labels) other
+
+-- the verdict with what was found of the labels before these
+abbrev pub judged : Verdict → List Label → Verdict
+judged v labels = cond (list_any label_fails labels) verdict.Fail
+    (cond (list_any label_is_open labels) verdict.Incomplete v)
+
+one-judged : (v : Verdict) (f o g p : Bool) → f ≡ false
+    → cond (f || g) verdict.Fail (cond (o || p) verdict.Incomplete v)
+    ≡ cond g verdict.Fail (cond p verdict.Incomplete (cond o verdict.Incomplete v))
+one-judged v f o g p e = grind arith
+
+pub judged-more : (v : Verdict) (labels : List Label) {i : ℕ} {x : Label} (d : Label)
+    → i < length labels → x ≡ get_or labels i d → fails x.state ≡ false
+    → judged (cond (is_open x.state) verdict.Incomplete v) (drop (i + 1) labels)
+    ≡ judged v (drop i labels)
+judged-more v labels {i = i} {x = x} d below is passes =
+    let rest = drop (i + 1) labels in
+    sym (ap (judged v) (drop_more labels i d below ∙ ap (λ y. y ∷ rest) (sym is))
+    ∙ one-judged v (fails x.state) (is_open x.state) (list_any label_fails rest)
+    (list_any label_is_open rest) passes)
+
+pub judged-fails : (v : Verdict) (labels : List Label) {i : ℕ} {x : Label} (d : Label)
+    → i < length labels → x ≡ get_or labels i d → fails x.state ≡ true
+    → judged v (drop i labels) ≡ verdict.Fail
+judged-fails v labels {i = i} {x = x} d below is fail =
+    let rest = drop (i + 1) labels in
+    ap (judged v) (drop_more labels i d below ∙ ap (λ y. y ∷ rest) (sym is))
+    ∙ ap (λ b. cond (b || list_any label_fails rest) verdict.Fail
+    (cond (is_open x.state || list_any label_is_open rest) verdict.Incomplete v)) fail
+
+pub judged-end : (v : Verdict) (labels : List Label) {i : ℕ} → length labels ≤ i
+    → judged v (drop i labels) ≡ v
+judged-end v labels {i = i} end = ap (judged v) (drop_all i labels end)

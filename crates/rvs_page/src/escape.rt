@@ -17,41 +17,23 @@ pub(crate) fn push_bytes(page: &mut Vec<u8>, bytes: &[u8]) -> Result<(), NoMemor
     Ok(())
 }
 
+/// Adds a byte: a mark by its name, a control character by its number, any other as it is.
 fn push_byte(page: &mut Vec<u8>, byte: u8) -> Result<(), NoMemory>
     ensures { OnOk result (page.new.items ≡ page.old.items ++ spec.mark byte) }
 {
-    if byte == b'&' {
-        push_bytes(page, b"&amp;")
-    } else if byte == b'<' {
-        push_bytes(page, b"&lt;")
-    } else if byte == b'>' {
-        push_bytes(page, b"&gt;")
-    } else if byte == b'"' {
-        push_bytes(page, b"&quot;")
-    } else {
-        push_plain(page, byte)
+    match byte {
+        b'&' => push_bytes(page, b"&amp;"),
+        b'<' => push_bytes(page, b"&lt;"),
+        b'>' => push_bytes(page, b"&gt;"),
+        b'"' => push_bytes(page, b"&quot;"),
+        0..=31 | 127 => {
+            let hundreds = b'0' + byte / 100;
+            let tens = b'0' + byte / 10 % 10;
+            let ones = b'0' + byte % 10;
+            push_bytes(page, &[b'&', b'#', hundreds, tens, ones, b';'])
+        },
+        _ => push_bytes(page, &[byte]),
     }
-}
-
-/// A byte that isn't told by a name: a control character is told by its number.
-fn push_plain(page: &mut Vec<u8>, byte: u8) -> Result<(), NoMemory>
-    ensures { OnOk result (page.new.items ≡ page.old.items ++ spec.plain byte) }
-{
-    if byte < 32 || byte == 127 {
-        push_control(page, byte)
-    } else {
-        page.push(byte)?;
-        Ok(())
-    }
-}
-
-fn push_control(page: &mut Vec<u8>, byte: u8) -> Result<(), NoMemory>
-    ensures { OnOk result (page.new.items ≡ page.old.items ++ spec.control byte) }
-{
-    let hundreds = b'0' + byte / 100;
-    let tens = b'0' + byte / 10 % 10;
-    let ones = b'0' + byte % 10;
-    push_bytes(page, &[b'&', b'#', hundreds, tens, ones, b';'])
 }
 
 /// Adds a text, so that a reader of the page reads it.

@@ -1,15 +1,11 @@
 // The failures on a page.
-ghost use Rattle.std.specs.Prelude.{◌≡◌, ◌++◌, ◌∷◌, [], OnOk, codes};
-ghost use Rattle.std.specs.List.{flat_map};
+ghost use Rattle.std.specs.Prelude.{◌≡◌, ◌++◌, OnOk};
 ghost use Rattle.rvs_page.specs.Failures as spec;
-ghost use Rattle.rvs_page.specs.Pieces.{told};
-ghost use Rattle.rvs_page.specs.Said.{badge};
-ghost use Rattle.rvs_page.specs.declared.pieces.Piece.TheVariants as variant;
 
-use crate::pieces::{Piece, html, push_html, push_pieces, read_as, text};
-use crate::said::{badge_class, badge_word, push_said_whole};
-use crate::shown::{Case, Label};
-use crate::totals::{any_fails, fails};
+use crate::pieces::{Piece, either, html, push_html, push_pieces, read_as, text};
+use crate::said::{badge_texts, push_said_whole};
+use crate::shown::{Case, Label, Verdict};
+use crate::totals::{fails, verdict_of};
 use rvs_base::NoMemory;
 use std::alloc::Global;
 
@@ -21,16 +17,6 @@ const CASES_HEAD: &str = "\
 <div class=\"wide\"><table>\n<thead><tr><th class=\"n\">case</th>\
 <th>kind</th><th>point</th><th>instruction</th><th>core</th>\
 <th>reference</th></tr></thead>\n<tbody>\n";
-
-fn unlike(core: u32, reference: u32) -> &'static str
-    ensures { result.now ≡ spec.unlike core reference }
-{
-    if core == reference {
-        ""
-    } else {
-        " class=\"bad\""
-    }
-}
 
 fn push_case_row(alloc: Global, page: &mut Vec<u8>, case: &Case) -> Result<(), NoMemory>
     ensures { OnOk result (page.new.items ≡ page.old.items ++ spec.case_row case.now) }
@@ -47,11 +33,11 @@ fn push_case_row(alloc: Global, page: &mut Vec<u8>, case: &Case) -> Result<(), N
         html("</td><td class=\"key\">"),
         read_as(case.code.as_slice()),
         html("</td><td><code"),
-        html(unlike(core, reference)),
+        either(core == reference, "", " class=\"bad\""),
         html(">"),
         Piece::Word(core),
         html("</code> <code"),
-        html(unlike(core_next, reference_next)),
+        either(core_next == reference_next, "", " class=\"bad\""),
         html(">"),
         Piece::Word(core_next),
         html("</code></td><td><code>"),
@@ -63,28 +49,24 @@ fn push_case_row(alloc: Global, page: &mut Vec<u8>, case: &Case) -> Result<(), N
     push_pieces(alloc, page, &pieces)
 }
 
-fn push_case_rows(alloc: Global, page: &mut Vec<u8>, cases: &[Case]) -> Result<(), NoMemory>
-    ensures { OnOk result (page.new.items
-        ≡ page.old.items ++ flat_map spec.case_row cases.now) }
-{
-    for case in cases {
-        push_case_row(alloc, page, case)?;
-    }
-    Ok(())
-}
-
 #[tactic(auto, unfolding(crate::specs::Failures::cases_table))]
 fn push_cases_table(alloc: Global, page: &mut Vec<u8>, cases: &[Case]) -> Result<(), NoMemory>
     ensures { OnOk result (page.new.items ≡ page.old.items ++ spec.cases_table cases.now) }
 {
     push_html(page, CASES_HEAD)?;
-    push_case_rows(alloc, page, cases)?;
+    for case in cases {
+        push_case_row(alloc, page, case)?;
+    }
     push_html(page, "</tbody>\n</table></div>\n")
 }
 
-fn push_folded(alloc: Global, page: &mut Vec<u8>, cases: &[Case]) -> Result<(), NoMemory>
-    ensures { OnOk result (page.new.items ≡ page.old.items ++ spec.folded cases.now) }
+#[tactic(auto, unfolding(crate::specs::Failures::folded_cases))]
+fn push_folded_cases(alloc: Global, page: &mut Vec<u8>, cases: &[Case]) -> Result<(), NoMemory>
+    ensures { OnOk result (page.new.items ≡ page.old.items ++ spec.folded_cases cases.now) }
 {
+    if cases.is_empty() {
+        return Ok(());
+    }
     let pieces = [
         html("<details>\n<summary>"),
         Piece::Number(cases.len() as u64),
@@ -95,24 +77,6 @@ fn push_folded(alloc: Global, page: &mut Vec<u8>, cases: &[Case]) -> Result<(), 
     push_html(page, "</details>\n")
 }
 
-#[tactic(auto, unfolding(crate::specs::Failures::folded_cases))]
-fn push_folded_cases(alloc: Global, page: &mut Vec<u8>, cases: &[Case]) -> Result<(), NoMemory>
-    ensures { OnOk result (page.new.items ≡ page.old.items ++ spec.folded_cases cases.now) }
-{
-    if cases.is_empty() {
-        return Ok(());
-    }
-    push_folded(alloc, page, cases)
-}
-
-fn push_shown_cases(alloc: Global, page: &mut Vec<u8>, cases: &[Case]) -> Result<(), NoMemory>
-    ensures { OnOk result (page.new.items ≡ page.old.items ++ spec.shown_cases cases.now) }
-{
-    let (first, rest) = cases.split_at(SHOWN.min(cases.len()));
-    push_cases_table(alloc, page, first)?;
-    push_folded_cases(alloc, page, rest)
-}
-
 #[tactic(auto, unfolding(crate::specs::Failures::cases_text))]
 fn push_cases(alloc: Global, page: &mut Vec<u8>, cases: &[Case]) -> Result<(), NoMemory>
     ensures { OnOk result (page.new.items ≡ page.old.items ++ spec.cases_text cases.now) }
@@ -120,66 +84,35 @@ fn push_cases(alloc: Global, page: &mut Vec<u8>, cases: &[Case]) -> Result<(), N
     if cases.is_empty() {
         return Ok(());
     }
-    push_shown_cases(alloc, page, cases)
-}
-
-/// Adds the badge and the name of a label, up to what is said of its test.
-fn push_failed_begin(alloc: Global, page: &mut Vec<u8>, label: &Label) -> Result<(), NoMemory>
-    ensures { OnOk result (page.new.items ≡ page.old.items
-        ++ (told (variant.Html (codes "<article class=\"fail\">\n<h3>") ∷ [])
-        ++ (badge label.now.state ++ spec.failed_name label.now))) }
-{
-    let pieces = [
-        html("<article class=\"fail\">\n<h3><b class=\""),
-        html(badge_class(label.state)),
-        html("\">"),
-        html(badge_word(label.state)),
-        html("</b> <a href=\"#l-"),
-        text(&label.name),
-        html("\">"),
-        text(&label.name),
-        html("</a></h3>\n<p>"),
-    ];
-    push_pieces(alloc, page, &pieces)
-}
-
-fn push_failed(alloc: Global, page: &mut Vec<u8>, label: &Label) -> Result<(), NoMemory>
-    ensures { OnOk result (page.new.items ≡ page.old.items ++ spec.failed_text label.now) }
-{
-    push_failed_begin(alloc, page, label)?;
-    push_said_whole(alloc, page, label)?;
-    push_html(page, "</p>\n")?;
-    push_cases(alloc, page, label.cases.as_slice())?;
-    push_html(page, "</article>\n")
+    let (first, rest) = cases.split_at(SHOWN.min(cases.len()));
+    push_cases_table(alloc, page, first)?;
+    push_folded_cases(alloc, page, rest)
 }
 
 #[tactic(auto, unfolding(crate::specs::Failures::failure_text))]
 fn push_failure(alloc: Global, page: &mut Vec<u8>, label: &Label) -> Result<(), NoMemory>
     ensures { OnOk result (page.new.items ≡ page.old.items ++ spec.failure_text label.now) }
 {
-    if fails(label.state) {
-        push_failed(alloc, page, label)
-    } else {
-        Ok(())
+    if !fails(label.state) {
+        return Ok(());
     }
-}
-
-fn push_each_failure(alloc: Global, page: &mut Vec<u8>, labels: &[Label]) -> Result<(), NoMemory>
-    ensures { OnOk result (page.new.items
-        ≡ page.old.items ++ flat_map spec.failure_text labels.now) }
-{
-    for label in labels {
-        push_failure(alloc, page, label)?;
-    }
-    Ok(())
-}
-
-fn push_section(alloc: Global, page: &mut Vec<u8>, labels: &[Label]) -> Result<(), NoMemory>
-    ensures { OnOk result (page.new.items ≡ page.old.items ++ spec.section labels.now) }
-{
-    push_html(page, "<section>\n<h2>Failures</h2>\n")?;
-    push_each_failure(alloc, page, labels)?;
-    push_html(page, "</section>\n")
+    let (class, word) = badge_texts(label.state);
+    let pieces = [
+        html("<article class=\"fail\">\n<h3><b class=\""),
+        html(class),
+        html("\">"),
+        html(word),
+        html("</b> <a href=\"#l-"),
+        text(&label.name),
+        html("\">"),
+        text(&label.name),
+        html("</a></h3>\n<p>"),
+    ];
+    push_pieces(alloc, page, &pieces)?;
+    push_said_whole(alloc, page, label)?;
+    push_html(page, "</p>\n")?;
+    push_cases(alloc, page, label.cases.as_slice())?;
+    push_html(page, "</article>\n")
 }
 
 /// Adds the failures, where there are some.
@@ -191,9 +124,12 @@ fn push_section(alloc: Global, page: &mut Vec<u8>, labels: &[Label]) -> Result<(
 pub fn push_failures(alloc: Global, page: &mut Vec<u8>, labels: &[Label]) -> Result<(), NoMemory>
     ensures { OnOk result (page.new.items ≡ page.old.items ++ spec.failures_text labels.now) }
 {
-    if any_fails(labels) {
-        push_section(alloc, page, labels)
-    } else {
-        Ok(())
+    let Verdict::Fail = verdict_of(labels) else {
+        return Ok(());
+    };
+    push_html(page, "<section>\n<h2>Failures</h2>\n")?;
+    for label in labels {
+        push_failure(alloc, page, label)?;
     }
+    push_html(page, "</section>\n")
 }

@@ -1,10 +1,10 @@
 // The head of a page.
-ghost use Rattle.std.specs.Prelude.{◌≡◌, ◌++◌, ◌∷◌, [], OnOk, Some, codes};
+ghost use Rattle.std.specs.Prelude.{◌≡◌, ◌++◌, ◌∷◌, [], OnOk, codes};
 ghost use Rattle.rvs_page.specs.Head as spec;
 ghost use Rattle.rvs_page.specs.Pieces.{told};
 ghost use Rattle.rvs_page.specs.declared.pieces.Piece.TheVariants as variant;
 
-use crate::pieces::{Piece, html, push_html, push_pieces, text};
+use crate::pieces::{Piece, either, html, push_html, push_pieces, text};
 use crate::shown::{Page, Verdict};
 use crate::style::STYLE;
 use crate::totals::Totals;
@@ -18,30 +18,16 @@ const TITLE: &str = "\
 <meta name=\"viewport\" content=\"width=device-width, initial-scale=1\">\n\
 <meta name=\"color-scheme\" content=\"light dark\">\n<title>rvsuite: ";
 
-fn verdict_word(verdict: Verdict) -> &'static str
-    ensures { result.now ≡ spec.verdict_word verdict }
+/// The word of a verdict, and its class.
+fn verdict_texts(verdict: Verdict) -> (&'static str, &'static str)
+    ensures word { result.0.now ≡ spec.verdict_word verdict }
+    ensures class { result.1.now ≡ spec.verdict_class verdict }
 {
     match verdict {
-        Verdict::Pass => "PASS",
-        Verdict::Incomplete => "INCOMPLETE",
-        Verdict::Fail => "FAIL",
+        Verdict::Pass => ("PASS", "ok"),
+        Verdict::Incomplete => ("INCOMPLETE", "no"),
+        Verdict::Fail => ("FAIL", "bad"),
     }
-}
-
-fn verdict_class(verdict: Verdict) -> &'static str
-    ensures { result.now ≡ spec.verdict_class verdict }
-{
-    match verdict {
-        Verdict::Pass => "ok",
-        Verdict::Incomplete => "no",
-        Verdict::Fail => "bad",
-    }
-}
-
-fn truth(fact: bool) -> &'static str
-    ensures { result.now ≡ spec.truth fact }
-{
-    if fact { "true" } else { "false" }
 }
 
 /// Adds the head, up to the numbers.
@@ -57,23 +43,24 @@ pub fn push_head(
 ) -> Result<(), NoMemory>
     ensures { OnOk result (page.new.items ≡ page.old.items ++ spec.head_text verdict shown.now) }
 {
+    let (word, class) = verdict_texts(verdict);
     let pieces = [
         html(TITLE),
-        html(verdict_word(verdict)),
+        html(word),
         html(", "),
         text(&shown.device),
         html(", "),
         text(&shown.core.isa),
         html(STYLE),
-        html(verdict_class(verdict)),
+        html(class),
         html("\">"),
-        html(verdict_word(verdict)),
+        html(word),
         html("</p>\n<div>\n<h1>"),
         text(&shown.device),
         html("</h1>\n<p>"),
         text(&shown.core.isa),
         html(", misaligned data "),
-        html(truth(shown.core.misaligned)),
+        either(shown.core.misaligned, "true", "false"),
         html(", "),
         Piece::Number(u64::from(shown.core.address_bits)),
         html(" address bits, misa 0x"),
@@ -81,12 +68,6 @@ pub fn push_head(
         html("</p>\n</div>\n</header>\n"),
     ];
     push_pieces(alloc, page, &pieces)
-}
-
-fn class_if(number: u64, class: &str) -> &str
-    ensures { result.now ≡ spec.class_if number class.now }
-{
-    if number == 0 { "" } else { class }
 }
 
 /// Adds the numbers that each run has.
@@ -101,11 +82,11 @@ fn push_numbers(alloc: Global, page: &mut Vec<u8>, totals: &Totals) -> Result<()
         html("</strong><span>tests</span></div>\n<div class=\"ok\"><strong>"),
         Piece::Number(totals.passed),
         html("</strong><span>pass</span></div>\n<div"),
-        html(class_if(totals.failed, " class=\"bad\"")),
+        either(totals.failed == 0, "", " class=\"bad\""),
         html("><strong>"),
         Piece::Number(totals.failed),
         html("</strong><span>fail</span></div>\n<div"),
-        html(class_if(totals.open_tests, " class=\"no\"")),
+        either(totals.open_tests == 0, "", " class=\"no\""),
         html("><strong>"),
         Piece::Number(totals.open_tests),
         html("</strong><span>not run</span></div>\n<div><strong>"),
@@ -117,42 +98,6 @@ fn push_numbers(alloc: Global, page: &mut Vec<u8>, totals: &Totals) -> Result<()
         html("</strong><span>skipped</span></div>\n"),
     ];
     push_pieces(alloc, page, &pieces)
-}
-
-/// Adds the numbers of logs.
-fn push_logged(
-    alloc: Global,
-    page: &mut Vec<u8>,
-    instructions: u64,
-    totals: &Totals,
-) -> Result<(), NoMemory>
-    ensures { OnOk result (page.new.items
-        ≡ page.old.items ++ spec.log_tiles (Some instructions) totals.now) }
-{
-    let pieces = [
-        html("<div><strong>"),
-        Piece::Number(instructions),
-        html("</strong><span>instructions</span></div>\n<div><strong>"),
-        Piece::Number(totals.hit),
-        html("</strong><span>points hit</span></div>\n"),
-    ];
-    push_pieces(alloc, page, &pieces)
-}
-
-#[tactic(auto, unfolding(crate::specs::Head::log_tiles))]
-fn push_log_tiles(
-    alloc: Global,
-    page: &mut Vec<u8>,
-    instructions: Option<u64>,
-    totals: &Totals,
-) -> Result<(), NoMemory>
-    ensures { OnOk result (page.new.items
-        ≡ page.old.items ++ spec.log_tiles instructions totals.now) }
-{
-    match instructions {
-        None => Ok(()),
-        Some(instructions) => push_logged(alloc, page, instructions, totals),
-    }
 }
 
 /// Adds the numbers.
@@ -170,6 +115,17 @@ pub fn push_tiles(
         ≡ page.old.items ++ spec.tiles_text instructions totals.now) }
 {
     push_numbers(alloc, page, totals)?;
-    push_log_tiles(alloc, page, instructions, totals)?;
-    push_html(page, "</section>\n")
+    match instructions {
+        None => push_html(page, "</section>\n"),
+        Some(instructions) => {
+            let pieces = [
+                html("<div><strong>"),
+                Piece::Number(instructions),
+                html("</strong><span>instructions</span></div>\n<div><strong>"),
+                Piece::Number(totals.hit),
+                html("</strong><span>points hit</span></div>\n</section>\n"),
+            ];
+            push_pieces(alloc, page, &pieces)
+        },
+    }
 }

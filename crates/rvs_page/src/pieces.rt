@@ -1,6 +1,5 @@
 // The pieces that a page is made of.
-ghost use Rattle.std.specs.Prelude.{◌≡◌, ◌++◌, [], ◌∷◌, OnOk};
-ghost use Rattle.std.specs.Fmt.{decimal};
+ghost use Rattle.std.specs.Prelude.{◌≡◌, ◌++◌, [], ◌∷◌, OnOk, if◌then◌else◌};
 ghost use Rattle.rvs_page.specs.Pieces as spec;
 ghost use Rattle.rvs_page.specs.declared.pieces.Piece.TheVariants as variant;
 
@@ -45,6 +44,13 @@ pub fn html(text: &str) -> Piece<'_>
     })
 }
 
+/// One text of the page itself where the condition holds, and else the other.
+pub fn either<'b>(condition: bool, text: &'b str, other: &'b str) -> Piece<'b>
+    ensures { result ≡ variant.Html (if condition then text.now else other.now) }
+{
+    if condition { html(text) } else { html(other) }
+}
+
 /// What a reader is to read as it is.
 pub fn text(text: &Text) -> Piece<'_>
     ensures { result ≡ variant.Text text.now }
@@ -59,13 +65,6 @@ pub fn read_as(bytes: &[u8]) -> Piece<'_>
     Piece::Text(Borrowed { bytes })
 }
 
-fn push_number(alloc: Global, page: &mut Vec<u8>, number: u64) -> Result<(), NoMemory>
-    ensures { OnOk result (page.new.items ≡ page.old.items ++ decimal number) }
-{
-    let text = format!(in alloc; "{number}")?;
-    push_bytes(page, text.as_str().as_bytes())
-}
-
 #[tactic(auto, unfolding(crate::specs::Pieces::piece_text))]
 fn push_piece(alloc: Global, page: &mut Vec<u8>, piece: &Piece<'_>) -> Result<(), NoMemory>
     ensures { OnOk result (page.new.items ≡ page.old.items ++ spec.piece_text piece.now) }
@@ -73,7 +72,10 @@ fn push_piece(alloc: Global, page: &mut Vec<u8>, piece: &Piece<'_>) -> Result<()
     match piece {
         Piece::Html(text) => push_bytes(page, text.bytes),
         Piece::Text(text) => push_escaped(page, text.bytes),
-        Piece::Number(number) => push_number(alloc, page, *number),
+        Piece::Number(number) => {
+            let text = format!(in alloc; "{number}")?;
+            push_bytes(page, text.as_str().as_bytes())
+        },
         Piece::Word(word) => push_bytes(page, &hex_word(*word)),
     }
 }

@@ -8,29 +8,17 @@ use crate::totals::tested;
 use rvs_base::NoMemory;
 use std::alloc::Global;
 
-/// The class of the badge of a state.
-pub fn badge_class(state: State) -> &'static str
-    ensures { result.now ≡ spec.badge_class state }
+/// The class of the badge of a state, and what it says.
+pub fn badge_texts(state: State) -> (&'static str, &'static str)
+    ensures class { result.0.now ≡ spec.badge_class state }
+    ensures word { result.1.now ≡ spec.badge_word state }
 {
     match state {
-        State::NoTest => "no",
-        State::NotRun => "no",
-        State::OtherTest => "no",
-        State::Pass { .. } => "ok",
-        _ => "bad",
-    }
-}
-
-/// What the badge of a state says.
-pub fn badge_word(state: State) -> &'static str
-    ensures { result.now ≡ spec.badge_word state }
-{
-    match state {
-        State::NoTest => "no test",
-        State::NotRun => "not run",
-        State::OtherTest => "other test",
-        State::Pass { .. } => "PASS",
-        _ => "FAIL",
+        State::NoTest => ("no", "no test"),
+        State::NotRun => ("no", "not run"),
+        State::OtherTest => ("no", "other test"),
+        State::Pass { .. } => ("ok", "PASS"),
+        _ => ("bad", "FAIL"),
     }
 }
 
@@ -46,36 +34,8 @@ fn push_cases_said(alloc: Global, page: &mut Vec<u8>, label: &Label) -> Result<(
     push_pieces(alloc, page, &pieces)
 }
 
-fn push_words_said(
-    alloc: Global,
-    page: &mut Vec<u8>,
-    at: usize,
-    left: u32,
-    right: u32,
-    differing: usize,
-    words: usize,
-) -> Result<(), NoMemory>
-    ensures { OnOk result (page.new.items
-        ≡ page.old.items ++ spec.words_said at left right differing words) }
-{
-    let pieces = [
-        html("word "),
-        Piece::Number(at as u64),
-        html(" is <code>"),
-        Piece::Word(left),
-        html("</code> and <code>"),
-        Piece::Word(right),
-        html("</code>; "),
-        Piece::Number(differing as u64),
-        html(" of "),
-        Piece::Number(words as u64),
-        html(" words and "),
-    ];
-    push_pieces(alloc, page, &pieces)
-}
-
 /// Adds what is said of a test whose words needn't be compared one by one.
-#[tactic(auto, unfolding(crate::specs::Said::state_said, crate::specs::Said::other_said, crate::specs::Said::none_said, crate::specs::Said::long_said))]
+#[tactic(auto, unfolding(crate::specs::Said::state_said, crate::specs::Said::other_said, crate::specs::Said::none_said, crate::specs::Said::long_said, crate::specs::Said::words_count, crate::specs::Said::bad_line, crate::specs::Said::lengths))]
 fn push_state_said(alloc: Global, page: &mut Vec<u8>, state: State) -> Result<(), NoMemory>
     ensures { OnOk result (page.new.items ≡ page.old.items ++ spec.state_said state) }
 {
@@ -83,44 +43,27 @@ fn push_state_said(alloc: Global, page: &mut Vec<u8>, state: State) -> Result<()
         State::NoTest => Ok(()),
         State::NotRun => Ok(()),
         State::OtherTest => push_html(page, "its files are of another test"),
-        State::Pass { words } => push_words_count(alloc, page, words),
+        State::Pass { words } => {
+            let pieces = [Piece::Number(words as u64), html(" words")];
+            push_pieces(alloc, page, &pieces)
+        },
         State::NoSignature => push_html(page, "no signature"),
         State::TooLong => push_html(page, "signature too long"),
-        State::BadLine { line } => push_bad_line(alloc, page, line),
-        State::Lengths { device, reference } => push_lengths(alloc, page, device, reference),
+        State::BadLine { line } => {
+            let pieces = [html("bad signature line "), Piece::Number(u64::from(line))];
+            push_pieces(alloc, page, &pieces)
+        },
+        State::Lengths { device, reference } => {
+            let pieces = [
+                html("lengths "),
+                Piece::Number(device as u64),
+                html(" and "),
+                Piece::Number(reference as u64),
+            ];
+            push_pieces(alloc, page, &pieces)
+        },
         State::Differs { .. } => Ok(()),
     }
-}
-
-fn push_words_count(alloc: Global, page: &mut Vec<u8>, words: usize) -> Result<(), NoMemory>
-    ensures { OnOk result (page.new.items ≡ page.old.items ++ spec.words_count words) }
-{
-    let pieces = [Piece::Number(words as u64), html(" words")];
-    push_pieces(alloc, page, &pieces)
-}
-
-fn push_bad_line(alloc: Global, page: &mut Vec<u8>, line: u32) -> Result<(), NoMemory>
-    ensures { OnOk result (page.new.items ≡ page.old.items ++ spec.bad_line line) }
-{
-    let pieces = [html("bad signature line "), Piece::Number(u64::from(line))];
-    push_pieces(alloc, page, &pieces)
-}
-
-fn push_lengths(
-    alloc: Global,
-    page: &mut Vec<u8>,
-    device: usize,
-    reference: usize,
-) -> Result<(), NoMemory>
-    ensures { OnOk result (page.new.items ≡ page.old.items ++ spec.lengths device reference) }
-{
-    let pieces = [
-        html("lengths "),
-        Piece::Number(device as u64),
-        html(" and "),
-        Piece::Number(reference as u64),
-    ];
-    push_pieces(alloc, page, &pieces)
 }
 
 /// Adds what is said of a label's test beside its badge.
@@ -143,7 +86,7 @@ pub fn push_said(alloc: Global, page: &mut Vec<u8>, label: &Label) -> Result<(),
 /// # Errors
 ///
 /// [`NoMemory`].
-#[tactic(auto, unfolding(crate::specs::Said::said_whole))]
+#[tactic(auto, unfolding(crate::specs::Said::said_whole, crate::specs::Said::words_said))]
 pub fn push_said_whole(alloc: Global, page: &mut Vec<u8>, label: &Label) -> Result<(), NoMemory>
     ensures { OnOk result (page.new.items ≡ page.old.items ++ spec.said_whole label.now) }
 {
@@ -155,7 +98,20 @@ pub fn push_said_whole(alloc: Global, page: &mut Vec<u8>, label: &Label) -> Resu
             differing,
             words,
         } => {
-            push_words_said(alloc, page, at, left, right, differing, words)?;
+            let pieces = [
+                html("word "),
+                Piece::Number(at as u64),
+                html(" is <code>"),
+                Piece::Word(left),
+                html("</code> and <code>"),
+                Piece::Word(right),
+                html("</code>; "),
+                Piece::Number(differing as u64),
+                html(" of "),
+                Piece::Number(words as u64),
+                html(" words and "),
+            ];
+            push_pieces(alloc, page, &pieces)?;
             push_cases_said(alloc, page, label)
         },
         state => push_state_said(alloc, page, state),

@@ -1,6 +1,5 @@
 // The numbers of labels.
 ghost use Rattle.std.specs.Prelude.{◌≡◌};
-ghost use Rattle.std.specs.List.{list_any};
 ghost use Rattle.rvs_page.specs.Shown as spec;
 
 use crate::shown::{Label, State, Verdict};
@@ -33,31 +32,21 @@ pub fn fails(state: State) -> bool
     }
 }
 
-/// Whether the test of a label fails.
-pub fn any_fails(labels: &[Label]) -> bool
-    ensures { result ≡ list_any spec.label_fails labels.now }
-{
-    labels.iter().any(|label| fails(label.state))
-}
-
-fn any_is_open(labels: &[Label]) -> bool
-    ensures { result ≡ list_any spec.label_is_open labels.now }
-{
-    labels.iter().any(|label| is_open(label.state))
-}
-
 /// The verdict on all tests.
 #[tactic(auto, unfolding(crate::specs::Shown::verdict_of))]
 pub fn verdict_of(labels: &[Label]) -> Verdict
     ensures { result ≡ spec.verdict_of labels.now }
 {
-    if any_fails(labels) {
-        Verdict::Fail
-    } else if any_is_open(labels) {
-        Verdict::Incomplete
-    } else {
-        Verdict::Pass
+    let mut verdict = Verdict::Pass;
+    for label in labels {
+        if fails(label.state) {
+            return Verdict::Fail;
+        }
+        if is_open(label.state) {
+            verdict = Verdict::Incomplete;
+        }
     }
+    verdict
 }
 
 /// How many points have a case.
@@ -129,10 +118,12 @@ fn with_label(t: Totals, label: &Label) -> Totals
     }
 }
 
-fn no_totals() -> Totals
-    ensures { result ≡ spec.none }
+/// The numbers of all labels.
+#[tactic(auto, unfolding(crate::specs::Shown::totals_of))]
+pub fn totals_of(labels: &[Label]) -> Totals
+    ensures { result ≡ spec.totals_of labels.now }
 {
-    Totals {
+    let mut totals = Totals {
         tests: 0,
         passed: 0,
         failed: 0,
@@ -141,15 +132,7 @@ fn no_totals() -> Totals
         unsolved: 0,
         skipped: 0,
         hit: 0,
-    }
-}
-
-/// The numbers of all labels.
-#[tactic(auto, unfolding(crate::specs::Shown::totals_of))]
-pub fn totals_of(labels: &[Label]) -> Totals
-    ensures { result ≡ spec.totals_of labels.now }
-{
-    let mut totals = no_totals();
+    };
     for label in labels {
         totals = with_label(totals, label);
     }

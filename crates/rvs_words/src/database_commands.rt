@@ -1,17 +1,15 @@
 // The command lines that may name a database of tests.
-ghost use Rattle.std.specs.Prelude.{◌≡◌, IfOk};
+ghost use Rattle.std.specs.Prelude.{◌≡◌};
 ghost use Rattle.rvs_words.specs.Words.{texts, values_of};
 ghost use Rattle.rvs_words.specs.Commands.{with_options, select_options, select_of, is_given};
 ghost use Rattle.rvs_words.specs.Commands.{run_options, run_groups_of, run_database_of, run_of};
 ghost use Rattle.rvs_words.specs.Reading.{Answers};
 
 use crate::command::{Command, RunArguments, RunDatabaseArguments, SelectArguments};
-use crate::families::read_families;
-use crate::group_commands::MOST_GROUPS;
+use crate::group_commands::read_groups;
 use crate::parts::read_part;
 use crate::unread::Unread;
-use crate::words::{Pair, only_value, owned, read_options, some_values, two_values, values};
-use rvs_base::NoMemory;
+use crate::words::{Pair, owned, read_options, two_values};
 use std::alloc::Global;
 
 /// Reads the words behind `select`.
@@ -35,16 +33,19 @@ pub fn read_select(alloc: Global, words: &[String]) -> Result<Command, Unread>
 pub fn read_run(alloc: Global, program: &str, words: &[String]) -> Result<Command, Unread>
     ensures { Answers result (with_options run_options (run_of program.now) (texts words.now)) }
 {
-    let names = [
-        "--isa",
-        "--cgf",
-        "--database",
-        "--device",
-        "--work",
-        "--part",
-        "--families",
-    ];
-    let options = read_options(alloc, words, &names)?;
+    let options = read_options(
+        alloc,
+        words,
+        &[
+            "--isa",
+            "--cgf",
+            "--database",
+            "--device",
+            "--work",
+            "--part",
+            "--families",
+        ],
+    )?;
     read_source(alloc, program, options.as_slice())
 }
 
@@ -57,24 +58,25 @@ pub fn read_run(alloc: Global, program: &str, words: &[String]) -> Result<Comman
 fn read_source(alloc: Global, program: &str, pairs: &[Pair]) -> Result<Command, Unread>
     ensures { Answers result (run_of program.now (λ name. values_of name pairs.now)) }
 {
-    if !is_given(alloc, pairs, "--database")? {
+    if !is_given(pairs, "--database") {
         return run_groups(alloc, program, pairs);
     }
-    if is_given(alloc, pairs, "--cgf")? || is_given(alloc, pairs, "--families")? {
+    if is_given(pairs, "--cgf") || is_given(pairs, "--families") {
         return Err(Unread::NoCommand);
     }
     run_database(alloc, program, pairs)
 }
 
 /// Whether an option stands.
-fn is_given(alloc: Global, pairs: &[Pair], name: &str) -> Result<bool, NoMemory>
-    ensures { IfOk result (λ is. is ≡ is_given (values_of name.now pairs.now)) }
+fn is_given(pairs: &[Pair], name: &str) -> bool
+    ensures { result ≡ is_given (values_of name.now pairs.now) }
 {
-    let values = values(alloc, pairs, name)?;
-    match values.as_slice() {
-        [] => Ok(false),
-        _ => Ok(true),
+    for pair in pairs {
+        if pair.name.as_str() == name {
+            return true;
+        }
     }
+    false
 }
 
 /// Reads the options of `run` over group files.
@@ -85,12 +87,10 @@ fn is_given(alloc: Global, pairs: &[Pair], name: &str) -> Result<bool, NoMemory>
 fn run_groups(alloc: Global, program: &str, pairs: &[Pair]) -> Result<Command, Unread>
     ensures { Answers result (run_groups_of program.now (λ name. values_of name pairs.now)) }
 {
-    let families = read_families(alloc, pairs)?;
     let part = read_part(alloc, pairs)?;
     let program = owned(alloc, program)?;
-    let isa = only_value(alloc, pairs, "--isa")?;
-    let groups = some_values(alloc, pairs, "--cgf", MOST_GROUPS)?;
     let (device, work) = two_values(alloc, pairs, "--device", "--work")?;
+    let (isa, groups, families) = read_groups(alloc, pairs)?;
     Ok(Command::Run(RunArguments {
         program,
         isa,

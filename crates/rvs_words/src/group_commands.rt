@@ -1,6 +1,8 @@
 // The command lines that name coverage group files.
-ghost use Rattle.std.specs.Prelude.{◌≡◌, codes};
-ghost use Rattle.rvs_words.specs.Words.{texts, values_of};
+ghost use Rattle.std.specs.Prelude.{◌≡◌, ◌⊎◌, Some, None, IfOk, IfErr, codes};
+ghost use Rattle.rvs_words.specs.Words.{texts, values_of, only};
+ghost use Rattle.rvs_words.specs.FamilyWords.{families_of};
+ghost use Rattle.rvs_words.specs.Commands.{most_groups, some_of};
 ghost use Rattle.rvs_words.specs.Commands.{with_options, normalize_options};
 ghost use Rattle.rvs_words.specs.Commands.{normalize_of, generate_options, generate_of};
 ghost use Rattle.rvs_words.specs.Commands.{coverage_options, coverage_of};
@@ -20,17 +22,39 @@ use crate::progress::read_progress;
 use crate::unread::Unread;
 use crate::windows::read_ranges;
 use crate::words::{Pair, few_values, only_value, read_options, some_values, two_values};
-use rvs_base::{Items, Window};
+use rvs_abstract::Families;
+use rvs_base::{Items, Text, Window};
 use std::alloc::Global;
 
 /// The most group files that may be named.
-pub const MOST_GROUPS: usize = 64;
+const MOST_GROUPS: usize = 64;
 
 /// The most execution logs that may be named.
 const MOST_LOGS: usize = 4096;
 
 /// The most windows that may be given.
 const MOST_WINDOWS: usize = 16;
+
+/// What each command over coverage groups is given: the ISA file, the group files, and which
+/// families of the groups' abstract points are read.
+///
+/// # Errors
+///
+/// [`Unread`]: `NoCommand` where one of them isn't given as it has to be.
+pub fn read_groups(alloc: Global, pairs: &[Pair]) -> Result<(Text, Items<Text>, Families), Unread>
+    ensures read { IfOk result (λ x. (only (values_of (codes "--isa") pairs.now) ≡ Some x.0)
+        × ((some_of most_groups (values_of (codes "--cgf") pairs.now) ≡ Some x.1)
+        × (families_of (values_of (codes "--families") pairs.now) ≡ Some x.2))) }
+    ensures none { IfErr result (λ e. e ≡ Unread.NoCommand
+        → (only (values_of (codes "--isa") pairs.now) ≡ None)
+        ⊎ ((some_of most_groups (values_of (codes "--cgf") pairs.now) ≡ None)
+        ⊎ (families_of (values_of (codes "--families") pairs.now) ≡ None))) }
+{
+    let families = read_families(alloc, pairs)?;
+    let isa = only_value(alloc, pairs, "--isa")?;
+    let groups = some_values(alloc, pairs, "--cgf", MOST_GROUPS)?;
+    Ok((isa, groups, families))
+}
 
 /// Reads the words behind `normalize`.
 ///
@@ -41,10 +65,7 @@ pub fn read_normalize(alloc: Global, words: &[String]) -> Result<Command, Unread
     ensures { Answers result (with_options normalize_options normalize_of (texts words.now)) }
 {
     let options = read_options(alloc, words, &["--isa", "--cgf", "--families"])?;
-    let pairs = options.as_slice();
-    let families = read_families(alloc, pairs)?;
-    let isa = only_value(alloc, pairs, "--isa")?;
-    let groups = some_values(alloc, pairs, "--cgf", MOST_GROUPS)?;
+    let (isa, groups, families) = read_groups(alloc, options.as_slice())?;
     Ok(Command::Normalize(NormalizeArguments {
         isa,
         groups,
@@ -60,8 +81,11 @@ pub fn read_normalize(alloc: Global, words: &[String]) -> Result<Command, Unread
 pub fn read_generate(alloc: Global, words: &[String]) -> Result<Command, Unread>
     ensures { Answers result (with_options generate_options generate_of (texts words.now)) }
 {
-    let names = ["--isa", "--cgf", "--work", "--part", "--families"];
-    let options = read_options(alloc, words, &names)?;
+    let options = read_options(
+        alloc,
+        words,
+        &["--isa", "--cgf", "--work", "--part", "--families"],
+    )?;
     generate_asked(alloc, options.as_slice())
 }
 
@@ -73,10 +97,9 @@ pub fn read_generate(alloc: Global, words: &[String]) -> Result<Command, Unread>
 fn generate_asked(alloc: Global, pairs: &[Pair]) -> Result<Command, Unread>
     ensures { Answers result (generate_of (λ name. values_of name pairs.now)) }
 {
-    let families = read_families(alloc, pairs)?;
     let part = read_part(alloc, pairs)?;
-    let groups = some_values(alloc, pairs, "--cgf", MOST_GROUPS)?;
-    let (isa, work) = two_values(alloc, pairs, "--isa", "--work")?;
+    let work = only_value(alloc, pairs, "--work")?;
+    let (isa, groups, families) = read_groups(alloc, pairs)?;
     Ok(Command::Generate(GenerateArguments {
         isa,
         groups,
@@ -94,15 +117,18 @@ fn generate_asked(alloc: Global, pairs: &[Pair]) -> Result<Command, Unread>
 pub fn read_coverage(alloc: Global, words: &[String]) -> Result<Command, Unread>
     ensures { Answers result (with_options coverage_options coverage_of (texts words.now)) }
 {
-    let names = [
-        "--isa",
-        "--cgf",
-        "--log",
-        "--window",
-        "--families",
-        "--progress",
-    ];
-    let options = read_options(alloc, words, &names)?;
+    let options = read_options(
+        alloc,
+        words,
+        &[
+            "--isa",
+            "--cgf",
+            "--log",
+            "--window",
+            "--families",
+            "--progress",
+        ],
+    )?;
     coverage_asked(alloc, options.as_slice())
 }
 
@@ -114,12 +140,10 @@ pub fn read_coverage(alloc: Global, words: &[String]) -> Result<Command, Unread>
 fn coverage_asked(alloc: Global, pairs: &[Pair]) -> Result<Command, Unread>
     ensures { Answers result (coverage_of (λ name. values_of name pairs.now)) }
 {
-    let families = read_families(alloc, pairs)?;
     let progress = read_progress(alloc, pairs)?;
     let windows = given_windows(alloc, pairs)?;
-    let isa = only_value(alloc, pairs, "--isa")?;
-    let groups = some_values(alloc, pairs, "--cgf", MOST_GROUPS)?;
     let logs = some_values(alloc, pairs, "--log", MOST_LOGS)?;
+    let (isa, groups, families) = read_groups(alloc, pairs)?;
     Ok(Command::Coverage(CoverageArguments {
         isa,
         groups,
@@ -150,15 +174,18 @@ fn given_windows(alloc: Global, pairs: &[Pair]) -> Result<Items<Window>, Unread>
 pub fn read_propagate(alloc: Global, words: &[String]) -> Result<Command, Unread>
     ensures { Answers result (with_options propagate_options propagate_of (texts words.now)) }
 {
-    let names = [
-        "--isa",
-        "--cgf",
-        "--log",
-        "--signature",
-        "--families",
-        "--progress",
-    ];
-    let options = read_options(alloc, words, &names)?;
+    let options = read_options(
+        alloc,
+        words,
+        &[
+            "--isa",
+            "--cgf",
+            "--log",
+            "--signature",
+            "--families",
+            "--progress",
+        ],
+    )?;
     propagate_asked(alloc, options.as_slice())
 }
 
@@ -170,12 +197,10 @@ pub fn read_propagate(alloc: Global, words: &[String]) -> Result<Command, Unread
 fn propagate_asked(alloc: Global, pairs: &[Pair]) -> Result<Command, Unread>
     ensures { Answers result (propagate_of (λ name. values_of name pairs.now)) }
 {
-    let families = read_families(alloc, pairs)?;
     let progress = read_progress(alloc, pairs)?;
-    let isa = only_value(alloc, pairs, "--isa")?;
-    let groups = some_values(alloc, pairs, "--cgf", MOST_GROUPS)?;
     let names = some_values(alloc, pairs, "--log", MOST_LOGS)?;
     let logs = given_signatures(alloc, pairs, names.as_slice())?;
+    let (isa, groups, families) = read_groups(alloc, pairs)?;
     Ok(Command::Propagate(PropagateArguments {
         isa,
         groups,
@@ -193,16 +218,19 @@ fn propagate_asked(alloc: Global, pairs: &[Pair]) -> Result<Command, Unread>
 pub fn read_report(alloc: Global, words: &[String]) -> Result<Command, Unread>
     ensures { Answers result (with_options report_options report_of (texts words.now)) }
 {
-    let names = [
-        "--isa",
-        "--cgf",
-        "--device",
-        "--work",
-        "--log",
-        "--window",
-        "--families",
-    ];
-    let options = read_options(alloc, words, &names)?;
+    let options = read_options(
+        alloc,
+        words,
+        &[
+            "--isa",
+            "--cgf",
+            "--device",
+            "--work",
+            "--log",
+            "--window",
+            "--families",
+        ],
+    )?;
     report_asked(alloc, options.as_slice())
 }
 
@@ -214,12 +242,10 @@ pub fn read_report(alloc: Global, words: &[String]) -> Result<Command, Unread>
 fn report_asked(alloc: Global, pairs: &[Pair]) -> Result<Command, Unread>
     ensures { Answers result (report_of (λ name. values_of name pairs.now)) }
 {
-    let families = read_families(alloc, pairs)?;
     let windows = given_windows(alloc, pairs)?;
-    let isa = only_value(alloc, pairs, "--isa")?;
-    let groups = some_values(alloc, pairs, "--cgf", MOST_GROUPS)?;
     let logs = few_values(alloc, pairs, "--log", MOST_LOGS)?;
     let (device, work) = two_values(alloc, pairs, "--device", "--work")?;
+    let (isa, groups, families) = read_groups(alloc, pairs)?;
     Ok(Command::Report(ReportArguments {
         isa,
         groups,

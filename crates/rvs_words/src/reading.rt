@@ -83,8 +83,11 @@ fn read_validate(alloc: Global, words: &[String]) -> Result<Command, Unread>
 fn read_reference(alloc: Global, words: &[String]) -> Result<Command, Unread>
     ensures { Answers result (with_options reference_options reference_of (texts words.now)) }
 {
-    let names = ["--isa", "--test", "--signature", "--log", "--steps"];
-    let options = read_options(alloc, words, &names)?;
+    let options = read_options(
+        alloc,
+        words,
+        &["--isa", "--test", "--signature", "--log", "--steps"],
+    )?;
     let pairs = options.as_slice();
     let steps = read_steps(alloc, pairs)?;
     let log = optional_value(alloc, pairs, "--log")?;

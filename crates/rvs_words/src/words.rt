@@ -123,9 +123,12 @@ fn are_known(pairs: &[Pair], names: &[&str]) -> bool
     ensures { result
         ≡ list_all (λ pair. list_any (λ name. bytes_eq pair.name name.now) names.now) pairs.now }
 {
-    pairs
-        .iter()
-        .all(|pair| is_one_of(pair.name.as_str(), names))
+    for pair in pairs {
+        if !is_one_of(pair.name.as_str(), names) {
+            return false;
+        }
+    }
+    true
 }
 
 fn is_one_of(word: &str, names: &[&str]) -> bool

@@ -3,7 +3,6 @@ use Rattle.std.proofs.Common.{◌≡◌, ℕ, Bool, true, false, List, [], ◌�
 use Rattle.std.proofs.Common.{length, take}
 use Rattle.std.proofs.Common.{sym, ap, ◌∙◌}
 use Rattle.std.specs.Prelude.{◌||◌, ◌==◌, if◌then◌else◌, Option, Some, None}
-use Rattle.rvs_base.specs.Answers.{seen}
 use Rattle.rvs_base.specs.declared.fault.Fault.{Fault}
 use Rattle.rvs_base.specs.declared.fault.Fault.TheVariants.{Refused}
 use Rattle.rvs_tree.specs.Value.{Value, Written, has_key, explicit_keys}
@@ -87,27 +86,6 @@ alias-refused : (o : Option Value) (ended : Bool) (kind : YamlKind)
 alias-refused None ended kind h = let same : UnknownAlias ≡ kind = cc in ap Err same
 alias-refused (Some v) true kind h = cc
 alias-refused (Some v) false kind h = let same : BadScalar ≡ kind = cc in ap Err same
-
--- an alias that isn't found, or behind which something stands, has no value in any form
-pub alias-told : (f : Value → Value) (m n : Checked Value) (ended : Bool) (kind : YamlKind)
-    → n ≡ seen f m → (m >> check ended BadScalar) ≡ Err kind
-    → (n >>= λ v. check ended BadScalar >> (let r : Checked Value = Ok v in r)) ≡ Err kind
-alias-told f (Ok v) n true kind e h = cc
-alias-told f (Ok v) n false kind e h =
-    ap (λ x. x >>= λ u. check false BadScalar >> (let r : Checked Value = Ok u in r)) e
-    ∙ (let same : BadScalar ≡ kind = cc in ap Err same)
-alias-told f (Err k) n ended kind e h =
-    ap (λ x. x >>= λ u. check ended BadScalar >> (let r : Checked Value = Ok u in r)) e
-    ∙ (let same : k ≡ kind = cc in ap Err same)
-
--- another has the value that is found
-pub alias-good : (f : Value → Value) (m n : Checked Value) (ended : Bool) → n ≡ seen f m
-    → (m >> check ended BadScalar) ≡ Ok tt
-    → n ≡ (n >>= λ v. check ended BadScalar >> (let r : Checked Value = Ok v in r))
-alias-good f (Ok v) n true e h =
-    e ∙ sym (ap (λ x. x >>= λ u. check true BadScalar >> (let r : Checked Value = Ok u in r)) e)
-alias-good f (Ok v) n false e h = cc
-alias-good f (Err k) n ended e h = cc
 
 pub content-refused : (known : Anchors) (line : ℕ) (c : Content) (kind : YamlKind)
     → looked_up known c ≡ Err kind → content_value known line c ≡ Err kind

@@ -3,7 +3,7 @@ use Rattle.std.proofs.Common.{◌≡◌, List, Result, Err, ap, subst, ◌∙◌
 use Rattle.rvs_base.specs.declared.fault.Fault.{Fault}
 use Rattle.rvs_base.specs.declared.fault.Fault.TheVariants.{Refused}
 use Rattle.rvs_yaml.specs.Checks.{Checked, ◌>>=◌}
-use Rattle.rvs_yaml.specs.Gives.{Decides, Gives, Fails, FailsWith}
+use Rattle.rvs_yaml.specs.Gives.{Decides, Gives, Fails}
 use Rattle.rvs_yaml.specs.Reader.{kept, Passes, RefusesFront, DeniesFront}
 use Rattle.rvs_tree.specs.Value.{Value}
 use Rattle.rvs_yaml.specs.Stack.{Open}
@@ -48,8 +48,3 @@ pub fails_kept : (fault : Fault YamlKind) (m t : Checked (List Open))
     (f : List Open → Checked (List Open)) → (m >>= f) ≡ t → Fails fault m
     → Fails fault (t >>= kept)
 fails_kept fault m t f e h = grind (arith, fails_to)
-
--- what decides a check fails where the check does
-pub decides_fails : {X Y : Type 0} (see : X → Y) (r : Result X (Fault YamlKind)) (m : Checked Y)
-    → Decides see r m → FailsWith r m
-decides_fails see = grind arith

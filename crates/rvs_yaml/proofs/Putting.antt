@@ -2,10 +2,7 @@
 use Rattle.std.proofs.Common.{◌≡◌, ◌-◌, Bool, true, false, List, ◌∷◌, length, take, Some, None, Ok}
 use Rattle.std.proofs.Common.{refl, sym, ap, subst, ◌∙◌}
 use Rattle.std.specs.Prelude.{slice_get, Option}
-use Rattle.rvs_base.specs.Answers.{seen}
-use Rattle.rvs_base.specs.declared.fault.Fault.{Fault}
 use Rattle.rvs_yaml.specs.Checks.{Checked, ◌>>◌, check}
-use Rattle.rvs_yaml.specs.Gives.{Fails}
 use Rattle.rvs_yaml.specs.Stack as spec
 use Rattle.rvs_yaml.specs.Stack.{begins, step}
 use Rattle.rvs_yaml.specs.StepParts.{own_content, looked_up, placed}
@@ -17,13 +14,8 @@ use Rattle.rvs_yaml_text.specs.WordView.{head_view}
 use Rattle.rvs_yaml_text.specs.declared.kind.YamlKind.{YamlKind}
 use Rattle.rvs_yaml_text.specs.declared.kind.YamlKind.TheVariants.{Unsupported}
 use Rattle.rvs_yaml.proofs.Deciding.{placed-under}
-use Rattle.rvs_yaml.proofs.Giving.{fails_to}
 use Rattle.rvs_yaml.proofs.Segments.{Closing, closing-false, last-whole, anchored-push}
 use Rattle.rvs_yaml.proofs.Sketching.{none-last}
-
-pub seen-fails : {A B : Type 0} (fault : Fault YamlKind) (f : A → B) (m : Checked A)
-    → Fails fault m → Fails fault (seen f m)
-seen-fails fault f m h = fails_to fault m (seen f m) (λ kind is. ap (seen f) is) h
 
 passed-check : {A B : Type 0} (t : Bool) (kind : YamlKind) (m : Checked A) (n : Checked B) (x : A)
     → (check t kind >> m) ≡ Ok x → (check t kind >> n) ≡ n

@@ -14,7 +14,7 @@ use Rattle.rvs_base.specs.declared.fault.Fault.{Fault}
 use Rattle.rvs_yaml.specs.Gives.{Gives}
 use Rattle.rvs_yaml.specs.declared.anchor_list.AnchorList.{AnchorList}
 use Rattle.rvs_yaml_text.specs.declared.kind.YamlKind.{YamlKind}
-use Rattle.rvs_yaml_text.specs.Word.{Name, Word, Head, Content, Bracket, Token, is_below}
+use Rattle.rvs_yaml_text.specs.Word.{Name, Word, Head, Content, is_below}
 use Rattle.rvs_yaml_text.specs.WordView.{head_view}
 use Rattle.rvs_yaml.specs.Anchors as anchors_spec
 use Rattle.rvs_yaml.specs.Checks.{◌>>=◌}
@@ -23,8 +23,6 @@ use Rattle.rvs_yaml.specs.Stack as spec
 use Rattle.rvs_yaml.specs.Stack.{Done, known_of, noted, closed_as}
 use Rattle.rvs_yaml.specs.Stack.{settled, step}
 use Rattle.rvs_yaml.specs.StepParts.{Block, opened, bare, closed_value, put_content}
-use Rattle.rvs_yaml.specs.Filling.{with_own, filled}
-use Rattle.rvs_yaml.specs.Flow.{flow_value}
 use Rattle.rvs_yaml.specs.Front.{own_value, ends, front_value, checked_front}
 use Rattle.rvs_yaml.specs.Reach.{passed, deepened, seen, sight, KeepsDepth}
 use Rattle.rvs_tree.specs.Shown.{Shown}
@@ -160,13 +158,6 @@ pub put-all : (all : List Anchor) (n : ℕ) (b : Block) (bs : List Open) (h : He
     ≡ (content_value (anchors_view all) h.line c
     >>= λ own. Ok (opened b h own ∷ anchored (take n all) bs))
 put-all all n b bs h c e r = grind (arith, known-put)
-
-pub filled-all : (all : List Anchor) (o : Open) (bs : List Open) (b : Bracket) (ts : List Token)
-    → Rises (length all) (o.block.before ∷ befores bs)
-    → filled (Some (b, ts)) (open_at all o ∷ anchored (take o.block.before all) bs)
-    ≡ (flow_value (anchors_view all) o.head.line b ts
-    >>= λ own. Ok (with_own (open_at all o) own ∷ anchored (take o.block.before all) bs))
-filled-all all o bs b ts r = simp known-put
 
 -- the block on top is the last
 pub last-whole : (bs : List Open) (top : Open) → Some top ≡ slice_get bs (length bs - 1)

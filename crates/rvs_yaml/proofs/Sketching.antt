@@ -43,15 +43,6 @@ ends-top bs m b v h = ap (ends v) (stack-more bs m b h)
 pub lt_test : (a b : ℕ) → a < b → true ≡ nat_lt a b
 lt_test a b h = grind (arith, nat_tests)
 
-pub lt_fact : (a b : ℕ) → nat_lt a b ≡ true → a < b
-lt_fact a b h = grind (arith, nat_tests)
-
-pub ge_test : (a b : ℕ) → b ≤ a → false ≡ nat_lt a b
-ge_test a b h = grind (arith, nat_tests)
-
-pub ge_fact : (a b : ℕ) → nat_lt a b ≡ false → b ≤ a
-ge_fact a b h = grind (arith, nat_tests)
-
 -- no last block: no block
 pub none-last : (bs : List Open) → None ≡ slice_get bs (length bs - 1) → bs ≡ []
 none-last [] h = refl

@@ -1,5 +1,5 @@
 // Noting where keys come that are taken below a map that merges.
-ghost use Rattle.std.specs.Prelude.{◌≡◌, ◌<◌, length, IfOk};
+ghost use Rattle.std.specs.Prelude.{◌<◌, length};
 ghost use Rattle.rvs_yaml.specs.FillView.{flow_view};
 ghost use Rattle.rvs_yaml.specs.Filling as spec;
 ghost use Rattle.rvs_yaml.specs.Reader.{Passes};
@@ -7,7 +7,7 @@ ghost use Rattle.rvs_yaml.specs.StackView.{open_blocks};
 
 use crate::anchor_list::AnchorList;
 use crate::arrivals::Arrivals;
-use crate::chain::{merges, root_of};
+use crate::chain::root_of;
 use crate::fill::fill;
 use crate::open::{Done, Open};
 use crate::open_blocks::OpenBlocks;
@@ -18,23 +18,17 @@ use rvs_yaml_text::{Bracket, YamlKind};
 use std::alloc::{AllocError, Global};
 use std::collections::BTreeMap;
 
-/// How many entries a map has so far.
-fn entries_of(done: &Done) -> usize {
-    match done {
-        Done::Items(_) => 0,
-        Done::Entries(pending) => pending.list.entries.len(),
-        Done::Alone => 0,
-    }
-}
-
 /// Whether these keys came below a map that is still open, and is as it was.
 fn is_open(arrivals: &Arrivals, blocks: &[Open<'_>]) -> bool {
     let Some(open) = blocks.get(arrivals.place) else {
         return false;
     };
-    merges(&open.block.done)
-        && arrivals.line == open.block.line
-        && arrivals.entries == entries_of(&open.block.done)
+    match &open.block.done {
+        Done::Entries(pending) => pending.key.merges
+            && arrivals.line == open.block.line
+            && arrivals.entries == pending.list.entries.len(),
+        _ => false,
+    }
 }
 
 /// Lets those go that came below maps that aren't open any more.
@@ -68,10 +62,14 @@ fn begin_below(
         return Ok(());
     }
     let block = &blocks[place].block;
+    let entries = match &block.done {
+        Done::Entries(pending) => pending.list.entries.len(),
+        _ => 0,
+    };
     let none_yet = Arrivals {
         place,
         line: block.line,
-        entries: entries_of(&block.done),
+        entries,
         lines: BTreeMap::new(alloc),
     };
     push(all, none_yet)
@@ -161,10 +159,19 @@ fn arrive(alloc: Global, all: &mut Vec<Arrivals>, blocks: &[Open<'_>]) -> Result
     }
 }
 
-/// The same blocks, with the keys noted that the last word brings.
-fn noted<'a>(alloc: Global, stack: OpenBlocks<'a>) -> Result<OpenBlocks<'a>, AllocError>
-    ensures { IfOk result (λ s. open_blocks s ≡ open_blocks stack.entry) }
+/// Fills in the value of a flow collection, where there is one, and notes the keys of the word.
+pub(crate) fn filled<'a>(
+    alloc: Global,
+    stack: OpenBlocks<'a>,
+    flow: Option<(Bracket, &'a str)>,
+) -> Result<OpenBlocks<'a>, Fault<YamlKind>>
+    ensures { Passes open_blocks result
+        (spec.filled (flow_view flow.entry) (open_blocks stack.entry)) }
 {
+    let stack = match flow {
+        Some((bracket, text)) => fill(alloc, stack, bracket, text)?,
+        None => stack,
+    };
     let OpenBlocks { blocks, anchors } = stack;
     let AnchorList {
         anchors,
@@ -179,19 +186,4 @@ fn noted<'a>(alloc: Global, stack: OpenBlocks<'a>) -> Result<OpenBlocks<'a>, All
     };
     let ((), stack) = beside(noted, OpenBlocks { blocks, anchors })?;
     Ok(stack)
-}
-
-/// Fills in the value of a flow collection, where there is one, and notes the keys of the word.
-pub(crate) fn filled<'a>(
-    alloc: Global,
-    stack: OpenBlocks<'a>,
-    flow: Option<(Bracket, &'a str)>,
-) -> Result<OpenBlocks<'a>, Fault<YamlKind>>
-    ensures { Passes open_blocks result
-        (spec.filled (flow_view flow.entry) (open_blocks stack.entry)) }
-{
-    match flow {
-        Some((bracket, text)) => Ok(noted(alloc, fill(alloc, stack, bracket, text)?)?),
-        None => Ok(noted(alloc, stack)?),
-    }
 }

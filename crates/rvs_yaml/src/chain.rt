@@ -8,28 +8,6 @@ ghost use Rattle.rvs_yaml.specs.StackView.{done_view, stack_view};
 use crate::arrivals::Arrivals;
 use crate::open::{Done, Open};
 
-/// Whether the open entry of a map merges.
-pub(crate) fn merges(done: &Done) -> bool
-    ensures { result ≡ spec.chained (done_view done.now) false }
-{
-    match done {
-        Done::Items(_) => false,
-        Done::Entries(pending) => pending.key.merges,
-        Done::Alone => false,
-    }
-}
-
-/// Whether what merges into the open member of a block merges into the block.
-fn passes(done: &Done) -> bool
-    ensures { result ≡ spec.chained (done_view done.now) true }
-{
-    match done {
-        Done::Items(_) => true,
-        Done::Entries(pending) => pending.key.merges,
-        Done::Alone => true,
-    }
-}
-
 /// The place of the outermost of the maps, one in another, into which what is in the last of these
 /// blocks merges. Their number where there is none.
 pub(crate) fn root_of(blocks: &[Open<'_>], end: usize) -> usize
@@ -41,10 +19,10 @@ pub(crate) fn root_of(blocks: &[Open<'_>], end: usize) -> usize
     let mut i = end;
     while i > 0 {
         i -= 1;
-        if !passes(&blocks[i].block.done) {
-            return root;
-        }
-        if merges(&blocks[i].block.done) {
+        if let Done::Entries(pending) = &blocks[i].block.done {
+            if !pending.key.merges {
+                return root;
+            }
             root = i;
         }
     }

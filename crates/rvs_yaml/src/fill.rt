@@ -11,20 +11,17 @@ ghost use Rattle.rvs_yaml.specs.FillView.{content_parts, shape_parts};
 ghost use Rattle.rvs_yaml.specs.Filling as spec;
 ghost use Rattle.rvs_yaml.specs.Flow.{flow_value};
 ghost use Rattle.rvs_yaml.specs.Front.{ends};
-ghost use Rattle.rvs_yaml.specs.Gives.{Gives};
 ghost use Rattle.rvs_yaml.specs.Reader.{Passes, Denies, DeniesFront, RefusesFront};
-ghost use Rattle.rvs_yaml.specs.StackView.{all_known, anchors_view, own_view, stack_view};
+ghost use Rattle.rvs_yaml.specs.StackView.{all_known, stack_view};
 ghost use Rattle.rvs_yaml.specs.StackView.{open_blocks};
 
-use crate::anchor_list::AnchorList;
-use crate::flow_text::{flow_value, thin_flow_value};
-use crate::front::{MOST_DEPTH, MOST_NODES, sketch_with, thin_sketch};
+use crate::flow_text::thin_flow_value;
+use crate::front::{MOST_DEPTH, MOST_NODES, sketch_of, sketch_with};
 use crate::height::flow_height;
 use crate::known::Known;
 use crate::open::Open;
 use crate::open_blocks::OpenBlocks;
-use crate::stack::put_own;
-use crate::taking::boxed;
+use crate::stack::put;
 use rvs_base::{Fault, beside, release};
 use rvs_tree::{DEEP, Value};
 use rvs_yaml_text::{Bracket, Content, Shape, YamlKind};
@@ -37,7 +34,7 @@ fn check_nodes(blocks: &[Open<'_>], thin: &Value, height: u64) -> Result<(), Fau
     ensures { (v : value_spec.Value) → value_view thin.now ≡ standin v
         → min (depth v.tree) 33 ≤ height → RefusesFront result (ends v (stack_view blocks.now)) }
 {
-    let sketch = sketch_with(blocks, thin_sketch(thin, height))?;
+    let sketch = sketch_with(blocks, sketch_of(thin, height))?;
     if sketch.nodes > MOST_NODES && sketch.depth <= MOST_DEPTH {
         Err(Fault::Refused(YamlKind::TooManyNodes))
     } else {
@@ -58,7 +55,7 @@ fn check_thin(
         → flow_value (all_known known.now) line b (tokens_of text.now) ≡ Ok v
         → value_view thin.now ≡ standin v → DeniesFront result (ends v (stack_view blocks.now)) }
 {
-    let sketch = sketch_with(blocks, thin_sketch(thin, DEEP))?;
+    let sketch = sketch_with(blocks, sketch_of(thin, DEEP))?;
     if sketch.nodes <= MOST_NODES {
         return Ok(());
     }
@@ -97,33 +94,13 @@ fn check_paid(
     checked
 }
 
-/// The value of a flow collection as that of the last word on this line, where these anchors are
-/// complete.
-fn own_with(
-    alloc: Global,
-    anchors: &AnchorList<'_>,
-    line: u64,
-    bracket: Bracket,
-    text: &str,
-) -> Result<Option<Box<Value>>, Fault<YamlKind>>
-    ensures { Gives (own_view line) result (flow_value (anchors_view anchors.now.anchors.items) line
-        (bracket_view bracket) (tokens_of text.now)) }
-{
-    let known = Known {
-        poor: false,
-        anchors,
-    };
-    let own = flow_value(alloc, &known, line, bracket, text)?;
-    Ok(Some(boxed(alloc, own)?))
-}
-
 /// Fills in the value of a flow collection as that of the last word. An alias is counted before
 /// what it stands for is taken.
 pub(crate) fn fill<'a>(
     alloc: Global,
     stack: OpenBlocks<'a>,
     bracket: Bracket,
-    text: &str,
+    text: &'a str,
 ) -> Result<OpenBlocks<'a>, Fault<YamlKind>>
     ensures { Passes open_blocks result
         (spec.filled (Some (bracket_view bracket, tokens_of text.now)) (open_blocks stack.entry)) }
@@ -138,8 +115,14 @@ pub(crate) fn fill<'a>(
     };
     let Open { block, head, own } = top;
     release(own);
-    let own = own_with(alloc, &anchors, head.line, bracket, text);
-    put_own(blocks, anchors, block, head, own)
+    put(
+        alloc,
+        blocks,
+        anchors,
+        block,
+        head,
+        Content::Flow(bracket, text),
+    )
 }
 
 /// What stands on a line without its flow collection, and that.

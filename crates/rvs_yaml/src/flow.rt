@@ -4,7 +4,6 @@ ghost use Rattle.rvs_tree.specs.Value as value_spec;
 ghost use Rattle.rvs_yaml.specs.Flow as spec;
 ghost use Rattle.rvs_yaml.specs.FlowSteps as steps_spec;
 ghost use Rattle.rvs_yaml.specs.FlowParts as parts;
-ghost use Rattle.rvs_yaml.specs.Anchors.{Anchors};
 ghost use Rattle.rvs_yaml.specs.Checks.{succeeds};
 ghost use Rattle.rvs_yaml.specs.Gives.{Agrees, Decides, Gives, FailsWith};
 ghost use Rattle.rvs_yaml.specs.StackView.{known_view};
@@ -29,7 +28,7 @@ use rvs_yaml_text::{Bracket, Key, Token, YamlKind};
 use std::alloc::Global;
 
 /// The place behind a collection's bracket.
-fn first_place(alloc: Global, bracket: Bracket) -> FlowState
+pub(crate) fn first_place(alloc: Global, bracket: Bracket) -> FlowState
     ensures { place_view result ≡ spec.first_place (bracket_view bracket) }
 {
     match bracket {
@@ -195,43 +194,6 @@ fn with_token(
     }
 }
 
-/// The value of a collection that ends here.
-fn closes(alloc: Global, line: u64, place: FlowState) -> Result<Value, Fault<YamlKind>>
-    ensures given { Gives value_view result (spec.closes line (place_view place)) }
-    ensures refused { FailsWith result (spec.closes line (place_view place)) }
-{
-    match place {
-        FlowState::Member(list) | FlowState::BehindMember(list) => {
-            Ok(list_value(alloc, line, list)?)
-        },
-        FlowState::KeyPlace(list) | FlowState::BehindEntry(list) => {
-            Ok(map_value(alloc, line, list)?)
-        },
-        FlowState::EntryValue(pending) => {
-            release(pending);
-            Err(Fault::Refused(YamlKind::BadFlow))
-        },
-    }
-}
-
-/// What stands for the value of a collection that ends here.
-fn thin_closes(alloc: Global, line: u64, place: &FlowState) -> Result<Value, Fault<YamlKind>>
-    ensures given { Gives value_view result
-        (steps_spec.closed_by true line (place_view place.now)) }
-    ensures refused { FailsWith result
-        (steps_spec.closed_by true line (place_view place.now)) }
-{
-    match place {
-        FlowState::Member(list) | FlowState::BehindMember(list) => {
-            Ok(thin_list_value(alloc, line, list)?)
-        },
-        FlowState::KeyPlace(list) | FlowState::BehindEntry(list) => {
-            Ok(thin_map_value(alloc, line, list)?)
-        },
-        _ => Err(Fault::Refused(YamlKind::BadFlow)),
-    }
-}
-
 /// The value of a collection that ends here, or what stands for it.
 fn closed_by(
     alloc: Global,
@@ -242,12 +204,27 @@ fn closed_by(
     ensures given { Gives value_view result (steps_spec.closed_by poor line (place_view place)) }
     ensures refused { FailsWith result (steps_spec.closed_by poor line (place_view place)) }
 {
-    if poor {
-        let thin = thin_closes(alloc, line, &place);
-        release(place);
-        thin
-    } else {
-        closes(alloc, line, place)
+    match place {
+        FlowState::Member(list) | FlowState::BehindMember(list) => {
+            if !poor {
+                return Ok(list_value(alloc, line, list)?);
+            }
+            let thin = thin_list_value(alloc, line, &list);
+            release(list);
+            Ok(thin?)
+        }
+        FlowState::KeyPlace(list) | FlowState::BehindEntry(list) => {
+            if !poor {
+                return Ok(map_value(alloc, line, list)?);
+            }
+            let thin = thin_map_value(alloc, line, &list);
+            release(list);
+            Ok(thin?)
+        }
+        FlowState::EntryValue(pending) => {
+            release(pending);
+            Err(Fault::Refused(YamlKind::BadFlow))
+        }
     }
 }
 
@@ -401,18 +378,6 @@ fn moved(
     ))
 }
 
-/// Refuses a token behind a whole collection.
-fn behind_whole(token: &Token<'_>) -> Result<Reading, Fault<YamlKind>>
-    ensures { (poor : Bool) → (known : Anchors) → (line : ℕ) → (v : value_spec.Value)
-        → (good : Bool) → Decides reading_view result (steps_spec.flow_step poor known line
-        (steps_spec.whole (v, good)) (token_view token.now)) }
-{
-    match token {
-        Token::LateColon => Err(Fault::Refused(YamlKind::Unsupported)),
-        _ => Err(Fault::Refused(YamlKind::BadFlow)),
-    }
-}
-
 /// What is read behind one token more.
 pub(crate) fn flow_step(
     alloc: Global,
@@ -436,19 +401,14 @@ pub(crate) fn flow_step(
         },
         Reading::Whole(value, _) => {
             release(value);
-            let told = behind_whole(&token);
+            let kind = match &token {
+                Token::LateColon => YamlKind::Unsupported,
+                _ => YamlKind::BadFlow,
+            };
             release(token);
-            told
+            Err(Fault::Refused(kind))
         }
     }
-}
-
-/// What is read behind the first bracket of a collection.
-pub(crate) fn new_reading(alloc: Global, bracket: Bracket) -> Reading
-    ensures { reading_view result ≡ parts.first_reading (bracket_view bracket) }
-{
-    let place = first_place(alloc, bracket);
-    Reading::Inside(true, Level { bracket, place }, Vec::new(alloc))
 }
 
 /// The value of a collection with nothing behind it.

@@ -1,5 +1,5 @@
 // Why what comes next in a flow collection is refused.
-ghost use Rattle.std.specs.Prelude.{◌≡◌, Err, if◌then◌else◌};
+ghost use Rattle.std.specs.Prelude.{◌≡◌, Err};
 ghost use Rattle.rvs_yaml.specs.Flow as spec;
 ghost use Rattle.rvs_yaml.specs.FlowParts as parts;
 ghost use Rattle.rvs_yaml_text.specs.declared.kind.YamlKind.TheVariants.{BadScalar, BadFlow};
@@ -41,20 +41,9 @@ pub(crate) fn colon_scalar_fault(place: &FlowState, byte: u8) -> YamlKind
     ensures { spec.with_colon_scalar (place_view place.now) byte ≡ Err result }
 {
     match place {
-        FlowState::Member(_) => bad_unless(byte == b',' || byte == b']'),
-        FlowState::EntryValue(_) => bad_unless(byte == b',' || byte == b'}'),
+        FlowState::Member(_) if byte == b',' || byte == b']' => YamlKind::BadScalar,
+        FlowState::EntryValue(_) if byte == b',' || byte == b'}' => YamlKind::BadScalar,
         _ => YamlKind::BadFlow,
-    }
-}
-
-/// A scalar's fault where what ends it is in its place.
-fn bad_unless(in_place: bool) -> YamlKind
-    ensures { result ≡ (if in_place then BadScalar else BadFlow) }
-{
-    if in_place {
-        YamlKind::BadScalar
-    } else {
-        YamlKind::BadFlow
     }
 }
 

@@ -12,9 +12,9 @@ ghost use Rattle.rvs_tree.specs.ValueView.{value_view};
 ghost use Rattle.rvs_yaml_text.specs.WordView.{bracket_view};
 ghost use Rattle.rvs_yaml.specs.FlowView.{flowing_view};
 
-use crate::flow::{flow_end, flow_step, new_reading};
+use crate::flow::{first_place, flow_end, flow_step};
 use crate::known::Known;
-use crate::reading::Flowing;
+use crate::reading::{Flowing, Level, Reading};
 use rvs_base::{Fault, beside};
 use rvs_tree::Value;
 use rvs_yaml_text::{Bracket, YamlKind, behind_first, closes, next_token, starts_with};
@@ -74,8 +74,12 @@ fn flow_form(
     ensures { Gives value_view result (flow_parts.formed_flow known.now.poor (known_view known.now)
         line (bracket_view bracket) (spec.tokens_of text.now)) }
 {
+    let level = Level {
+        bracket,
+        place: first_place(alloc, bracket),
+    };
     let mut flowing = Flowing {
-        reading: new_reading(alloc, bracket),
+        reading: Reading::Inside(true, level, Vec::new(alloc)),
         closed: false,
         spaced: false,
         rest: text,

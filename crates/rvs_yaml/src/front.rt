@@ -1,6 +1,6 @@
 // The limits on the tree of the lines so far.
-ghost use Rattle.std.specs.Prelude.{◌≡◌, ◌≤◌, ◌∷◌, ◌++◌, ◌+◌, ◌&&◌, [], ℕ, List, min, not, nat_lt};
-ghost use Rattle.std.specs.Prelude.{if◌then◌else◌, Ok, IfOk, IfErr, IsOk};
+ghost use Rattle.std.specs.Prelude.{◌≡◌, ◌≤◌, ◌∷◌, ◌++◌, ◌+◌, ◌&&◌, [], ℕ, List, min, nat_lt};
+ghost use Rattle.std.specs.Prelude.{Ok, IfOk, IfErr, IsOk};
 ghost use Rattle.rvs_tree.specs.Data as data_spec;
 ghost use Rattle.rvs_tree.specs.Value as value_spec;
 ghost use Rattle.rvs_yaml.specs.StepParts as parts;
@@ -14,22 +14,21 @@ ghost use Rattle.rvs_yaml.specs.Reach.{KeepsDepth};
 ghost use Rattle.rvs_yaml.specs.Gives.{Decides, Gives, FailsWith};
 ghost use Rattle.rvs_base.specs.declared.fault.Fault.TheVariants.{NoMemory};
 ghost use Rattle.rvs_yaml.specs.Sketched.{IsSketch, Brings, SketchedAs};
-ghost use Rattle.rvs_tree.specs.TreeView.{view};
 ghost use Rattle.rvs_yaml.specs.StackView.{done_view, open_view, stack_view};
 ghost use Rattle.rvs_tree.specs.ValueView.{value_view, values_view, entries_view, written_view};
 ghost use Rattle.rvs_yaml_text.specs.KeyView.{key_view};
 
 use crate::arrivals::Arrivals;
-use crate::entry::entry_of;
-use crate::keys::check_merge;
 use crate::open::{Block, Done, Open};
 use crate::reach::may_be_deep;
 use crate::reading::Pending;
 use crate::sketch::Sketch;
-use rvs_base::{Fault, beside, release};
+use crate::stack::closed_value;
+use crate::taking::boxed;
+use rvs_base::{Fault, beside};
 use rvs_tree::{
-    DEEP, EntryList, Tree, Value, ValueList, Written, into_tree, list_value, map_value, plus,
-    scalar_value, shared_value, text_nodes,
+    DEEP, EntryList, Value, ValueList, Written, depth_up_to, into_tree, plus, scalar_value,
+    shared_value, text_nodes,
 };
 use rvs_yaml_text::{Key, YamlKind};
 use std::alloc::{AllocError, Global};
@@ -40,32 +39,21 @@ pub(crate) const MOST_DEPTH: u64 = 32;
 /// The greatest number of nodes that is accepted.
 pub(crate) const MOST_NODES: u64 = 500_000;
 
-/// What is known of a value without looking through it.
-fn sketch_of(value: &Value) -> Sketch
-    ensures sketched { IsSketch (value_view value.now) result }
-    ensures kept { result.depth ≡ value.now.depth }
-{
-    Sketch {
-        depth: value.depth,
-        least: 1,
-        nodes: value.nodes,
-        is_map: value.is_map_or_empty(),
-        mergeable: value.mergeable,
-    }
-}
-
-/// What is known of a value for which this one stands, where it is at most so deep.
-pub(crate) fn thin_sketch(thin: &Value, deepest: u64) -> Sketch
+/// What is known of a value, or of one for which it stands, that is at most so deep, without
+/// looking through it.
+pub(crate) fn sketch_of(value: &Value, deepest: u64) -> Sketch
     requires { deepest ≤ 33 }
-    ensures { (v : value_spec.Value) → value_view thin.now ≡ standin v
+    ensures own { min (data_spec.depth (value_view value.now).tree) 33 ≤ deepest
+        → IsSketch (value_view value.now) result }
+    ensures thin { (v : value_spec.Value) → value_view value.now ≡ standin v
         → min (data_spec.depth v.tree) 33 ≤ deepest → IsSketch v result }
 {
     Sketch {
         depth: deepest,
         least: 1,
-        nodes: thin.nodes,
-        is_map: thin.is_map_or_empty(),
-        mergeable: thin.mergeable,
+        nodes: value.nodes,
+        is_map: value.is_map_or_empty(),
+        mergeable: value.mergeable,
     }
 }
 
@@ -117,43 +105,6 @@ fn brought_depth(key: &Key, last: &Sketch) -> u64
     last.depth.saturating_sub(hidden)
 }
 
-/// The depth that a map has at least with this open entry. Of what is merged nothing need be left.
-fn least_depth(key: &Key, last: &Sketch) -> u64
-    ensures { result ≡ (if key.now.merges then 1 else min (last.now.least + 1) 33) }
-{
-    if key.merges {
-        1
-    } else {
-        (last.least + 1).min(DEEP)
-    }
-}
-
-/// What is known of a map with one entry more, which brings values of at most this depth.
-fn map_sketch(entries: &EntryList, key: &Key, last: &Sketch, deepest: u64) -> Sketch
-    requires { deepest ≤ 33 }
-    ensures { (line : ℕ) → (v : value_spec.Value) → IsSketch v last.now → Brings entries.now
-        (key_view key.now) v deepest → IsSketch (value_spec.map_value line
-        (entries_view entries.now.entries.items ++ written (key_view key.now) v ∷ [])) result }
-{
-    Sketch {
-        depth: (entries.depth.max(deepest) + 1).min(DEEP),
-        least: least_depth(key, last),
-        nodes: plus(
-            plus(entries.nodes, text_nodes(key.name.as_str())),
-            last.nodes,
-        ),
-        is_map: true,
-        mergeable: true,
-    }
-}
-
-/// Whether the value can't be merged, where its key merges.
-fn is_bad_merge(key: &Key, last: &Sketch) -> bool
-    ensures { result ≡ (key.now.merges && not last.now.mergeable) }
-{
-    key.merges && !last.mergeable
-}
-
 /// What is known of a map with its open entry, which brings values of at most this depth.
 fn entry_sketch(
     entries: &EntryList,
@@ -166,10 +117,23 @@ fn entry_sketch(
         (key_view key.now) v deepest → SketchedAs result (parts.closed_value
         (done_entries (entries_view entries.now.entries.items) (key_view key.now)) line v) }
 {
-    if is_bad_merge(key, last) {
-        return Err(YamlKind::BadMerge);
-    }
-    Ok(map_sketch(entries, key, last, deepest))
+    let least = if key.merges {
+        if !last.mergeable {
+            return Err(YamlKind::BadMerge);
+        }
+        // Of what is merged nothing need be left.
+        1
+    } else {
+        (last.least + 1).min(DEEP)
+    };
+    let name_nodes = text_nodes(key.name.as_str());
+    Ok(Sketch {
+        depth: (entries.depth.max(deepest) + 1).min(DEEP),
+        least,
+        nodes: plus(plus(entries.nodes, name_nodes), last.nodes),
+        is_map: true,
+        mergeable: true,
+    })
 }
 
 /// What is known of a block with its open member.
@@ -196,9 +160,9 @@ fn leaf_sketch(block: &Block, own: &Value) -> Result<Sketch, YamlKind>
         Done::Entries(pending) => {
             let Pending { list, key } = &**pending;
             let deepest = list.brought(key.merges, own);
-            entry_sketch(list, key, &sketch_of(own), deepest)
+            entry_sketch(list, key, &sketch_of(own, own.depth), deepest)
         }
-        _ => closed_sketch(block, sketch_of(own)),
+        _ => closed_sketch(block, sketch_of(own, own.depth)),
     }
 }
 
@@ -246,12 +210,9 @@ pub(crate) fn sketch_with(blocks: &[Open<'_>], own: Sketch) -> Result<Sketch, Ya
 fn own_value(alloc: Global, top: &Open<'_>) -> Result<Value, AllocError>
     ensures { IfOk result (λ v. value_view v ≡ spec.own_value (open_view top.now)) }
 {
-    if top.head.sort.opens_block() {
-        return scalar_value(alloc, String::new(alloc), top.head.line);
-    }
     match &top.own {
-        Some(value) => shared_value(value),
-        None => scalar_value(alloc, String::new(alloc), top.head.line),
+        Some(value) if !top.head.sort.opens_block() => shared_value(value),
+        _ => scalar_value(alloc, String::new(alloc), top.head.line),
     }
 }
 
@@ -277,16 +238,6 @@ fn copied_written(alloc: Global, written: &Written) -> Result<Written, AllocErro
     })
 }
 
-/// The same key.
-fn copied_key(alloc: Global, key: &Key) -> Result<Key, AllocError>
-    ensures { IfOk result (λ k. key_view k ≡ key_view key.now) }
-{
-    Ok(Key {
-        name: String::from_str(alloc, key.name.as_str())?,
-        merges: key.merges,
-    })
-}
-
 /// The same entries.
 fn copied_entries(alloc: Global, entries: &[Written]) -> Result<EntryList, AllocError>
     ensures { IfOk result (λ l. entries_view l.entries.items ≡ entries_view entries.now) }
@@ -298,49 +249,21 @@ fn copied_entries(alloc: Global, entries: &[Written]) -> Result<EntryList, Alloc
     Ok(list)
 }
 
-/// The value of a list with one item more.
-fn longer_list(alloc: Global, line: u64, values: &[Value], last: Value) -> Result<Value, AllocError>
-    ensures { IfOk result (λ v. value_view v
-        ≡ value_spec.list_value line (values_view values.now ++ value_view last ∷ [])) }
+/// The same members.
+fn copied_done(alloc: Global, done: &Done) -> Result<Done, AllocError>
+    ensures { IfOk result (λ d. done_view d ≡ done_view done.now) }
 {
-    let (list, last) = beside(copied_values(alloc, values), last)?;
-    list_value(alloc, line, list.with(alloc, last)?)
-}
-
-/// The value of a map with one entry more.
-fn longer_map(
-    alloc: Global,
-    line: u64,
-    entries: &[Written],
-    key: &Key,
-    value: Value,
-) -> Result<Value, AllocError>
-    ensures { IfOk result (λ v. value_view v ≡ value_spec.map_value line
-        (entries_view entries.now ++ written (key_view key.now) (value_view value) ∷ [])) }
-{
-    let (key, value) = beside(copied_key(alloc, key), value)?;
-    let (list, entry) = beside(copied_entries(alloc, entries), entry_of(key, value))?;
-    map_value(alloc, line, list.with(alloc, entry)?)
-}
-
-/// The value of a block with its open member.
-fn closed_copy(alloc: Global, block: &Block, value: Value) -> Result<Value, Fault<YamlKind>>
-    ensures given { Gives value_view result
-        (parts.closed_value (done_view block.now.done) block.now.line (value_view value)) }
-    ensures refused { FailsWith result
-        (parts.closed_value (done_view block.now.done) block.now.line (value_view value)) }
-{
-    match &block.done {
-        Done::Items(list) => Ok(longer_list(alloc, block.line, list.values.as_slice(), value)?),
+    match done {
+        Done::Items(list) => Ok(Done::Items(copied_values(alloc, list.values.as_slice())?)),
         Done::Entries(pending) => {
-            if let Err(kind) = check_merge(&pending.key, &value) {
-                release(value);
-                return Err(Fault::Refused(kind));
-            }
-            let entries = pending.list.entries.as_slice();
-            Ok(longer_map(alloc, block.line, entries, &pending.key, value)?)
+            let Pending { list, key } = &**pending;
+            let name = String::from_str(alloc, key.name.as_str())?;
+            let (list, name) = beside(copied_entries(alloc, list.entries.as_slice()), name)?;
+            let merges = key.merges;
+            let key = Key { name, merges };
+            Ok(Done::Entries(boxed(alloc, Pending { list, key })?))
         }
-        Done::Alone => Ok(value),
+        Done::Alone => Ok(Done::Alone),
     }
 }
 
@@ -355,27 +278,11 @@ fn front_value(alloc: Global, blocks: &[Open<'_>]) -> Result<Value, Fault<YamlKi
     let mut i = blocks.len();
     while i > 0 {
         i -= 1;
-        value = closed_copy(alloc, &blocks[i].block, value)?;
+        let block = &blocks[i].block;
+        let (done, member) = beside(copied_done(alloc, &block.done), value)?;
+        value = closed_value(alloc, block.line, done, member)?;
     }
     Ok(value)
-}
-
-/// Whether the tree is deeper than this.
-fn is_deeper(tree: &Tree, levels: u64) -> bool
-    ensures { result ≡ nat_lt levels (data_spec.depth (view tree.now)) }
-{
-    if levels == 0 {
-        return true;
-    }
-    if tree.is_scalar() {
-        return false;
-    }
-    for i in 0..tree.len() {
-        if is_deeper(tree.item(i), levels - 1) {
-            return true;
-        }
-    }
-    false
 }
 
 /// Whether the tree of the lines so far, of which this is known, is too deep. Before the last line
@@ -402,7 +309,7 @@ fn is_too_deep(
         return Ok(false);
     }
     let tree = into_tree(alloc, front_value(alloc, blocks)?)?;
-    Ok(is_deeper(&tree, MOST_DEPTH))
+    Ok(depth_up_to(&tree, DEEP) > MOST_DEPTH)
 }
 
 /// Refuses a tree that is too deep, or has too many nodes.

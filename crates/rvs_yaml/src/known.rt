@@ -1,10 +1,9 @@
 // The anchors that are known at a place.
-ghost use Rattle.std.specs.Prelude.{◌≡◌, ◌≤◌, ℕ, min, IfOk};
+ghost use Rattle.std.specs.Prelude.{◌≤◌, ℕ, min};
 ghost use Rattle.rvs_yaml.specs.Anchors as spec;
 ghost use Rattle.rvs_yaml.specs.Gives.{Gives, FailsWith};
 ghost use Rattle.rvs_yaml.specs.Heights.{found_depth};
 ghost use Rattle.rvs_yaml.specs.StackView.{all_known, known_view, IsKeptUpTo};
-ghost use Rattle.rvs_tree.specs.Standin.{formed_value};
 ghost use Rattle.rvs_tree.specs.ValueView.{value_view};
 
 use crate::anchor_list::AnchorList;
@@ -12,24 +11,13 @@ use crate::anchoring::find_anchor;
 use rvs_base::Fault;
 use rvs_tree::{Value, shared_value, thin_value};
 use rvs_yaml_text::YamlKind;
-use std::alloc::{AllocError, Global};
+use std::alloc::Global;
 
 /// The anchors that are complete. Where `poor` is true, what stands for their values serves.
 #[derive(Clone, Copy)]
 pub(crate) struct Known<'a, 'b> {
     pub poor: bool,
     pub anchors: &'b AnchorList<'a>,
-}
-
-/// The same value, or what stands for it.
-fn formed(alloc: Global, poor: bool, value: &Value) -> Result<Value, AllocError>
-    ensures { IfOk result (λ v. value_view v ≡ formed_value poor (value_view value.now)) }
-{
-    if poor {
-        thin_value(alloc, value)
-    } else {
-        shared_value(value)
-    }
 }
 
 impl Known<'_, '_> {
@@ -53,9 +41,13 @@ impl Known<'_, '_> {
         ensures refused { FailsWith result
             (spec.known_alias (spec.lookup name.now (known_view self.now))) }
     {
-        match find_anchor(name, self.anchors) {
-            Some(value) => Ok(formed(alloc, self.poor, value)?),
-            None => Err(Fault::Refused(YamlKind::UnknownAlias)),
+        let Some(value) = find_anchor(name, self.anchors) else {
+            return Err(Fault::Refused(YamlKind::UnknownAlias));
+        };
+        if self.poor {
+            Ok(thin_value(alloc, value)?)
+        } else {
+            Ok(shared_value(value)?)
         }
     }
 }

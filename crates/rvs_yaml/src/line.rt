@@ -1,5 +1,5 @@
 // The words of a line.
-ghost use Rattle.std.specs.Prelude.{◌≡◌, ◌<◌, false, length, option_map, if◌then◌else◌};
+ghost use Rattle.std.specs.Prelude.{◌≡◌, ◌<◌, false, length, option_map};
 ghost use Rattle.std.specs.Prelude.{IfOk, IfSome};
 ghost use Rattle.rvs_yaml_text.specs.Text as text_spec;
 ghost use Rattle.rvs_yaml.specs.Stack as stack_spec;
@@ -59,25 +59,12 @@ fn last_word<'a>(
             None => Ok(None),
         };
     }
-    plain_word(alloc, line, column, item, text)
-}
-
-/// The last word of a line, where no anchor stands before it.
-fn plain_word<'a>(
-    alloc: Global,
-    line: u64,
-    column: usize,
-    item: bool,
-    text: &'a str,
-) -> Result<Option<Word<'a>>, AllocError>
-    ensures { IfOk result (λ o. parts.words_in (option_map word_view o)
-        ≡ text_spec.last_words line item column text.now) }
-{
     if is_blank(true, text.as_bytes()) {
         return Ok(None);
     }
     if starts_with(b'\t', text.as_bytes()) {
-        let place = tab_column(item, column);
+        // Behind a dash it is one at its own column.
+        let place = if item { column } else { 0 };
         return Ok(Some(refused(line, place, YamlKind::TabIndent)));
     }
     let shape = shape_of(alloc, text)?;
@@ -86,13 +73,6 @@ fn plain_word<'a>(
         column,
         shape,
     }))
-}
-
-/// Where a tab in the indentation is a word: behind a dash at its own column.
-fn tab_column(item: bool, column: usize) -> usize
-    ensures { result ≡ (if item then column else 0) }
-{
-    if item { column } else { 0 }
 }
 
 /// A line or an item that is refused wherever it stands.

@@ -1,9 +1,8 @@
 // How deep what the last word has brought is, as far as the keys around it leave it.
-ghost use Rattle.std.specs.Prelude.{◌≡◌, ◌≤◌, ◌<◌, [], ℕ, Bool, true, false, List, suc, min};
+ghost use Rattle.std.specs.Prelude.{◌≡◌, ◌≤◌, ◌<◌, [], ℕ, List, suc, min};
 ghost use Rattle.std.specs.Prelude.{slice_index_or, length, take, IfOk};
 ghost use Rattle.rvs_tree.specs.Shown as shown;
 ghost use Rattle.rvs_tree.specs.ShownView.{depths_view};
-ghost use Rattle.rvs_tree.specs.Value as value_spec;
 ghost use Rattle.rvs_tree.specs.Value.{scalar_value};
 ghost use Rattle.rvs_tree.specs.ValueView.{value_view, entries_view};
 ghost use Rattle.rvs_yaml.specs.Around.{AreAround};
@@ -11,11 +10,10 @@ ghost use Rattle.rvs_yaml.specs.Chain.{in_chain, chain_keys};
 ghost use Rattle.rvs_yaml.specs.Front.{own_value};
 ghost use Rattle.rvs_yaml.specs.Reach as spec;
 ghost use Rattle.rvs_yaml.specs.Seen.{Tells, TellsOf, TellsAt, Steps};
-ghost use Rattle.rvs_yaml.specs.Stack.{done_items, done_entries};
+ghost use Rattle.rvs_yaml.specs.Stack.{done_entries};
 ghost use Rattle.rvs_yaml.specs.StackView.{done_view, open_view, stack_view};
 ghost use Rattle.rvs_yaml.specs.declared.open.Open as code;
 ghost use Rattle.rvs_yaml_text.specs.KeyView.{key_view};
-ghost use Rattle.rvs_yaml_text.specs.Word as word_spec;
 
 use crate::arrivals::Arrivals;
 use crate::chain::{arrivals_at, is_taken_around, root_of};
@@ -128,41 +126,6 @@ fn unseen(
     })
 }
 
-/// What is new in a list with such an item.
-fn listed(seen: Seen) -> Seen
-    ensures { (vs : List value_spec.Value) → (inside : Bool) → (keys : List (List ℕ))
-        → Steps (done_items vs) inside keys seen result }
-{
-    let Seen {
-        depth,
-        deepest,
-        depths,
-    } = seen;
-    Seen {
-        depth: (depth + 1).min(DEEP),
-        deepest,
-        depths,
-    }
-}
-
-/// What is new in a map that merges such a value.
-fn merged(seen: Seen) -> Seen
-    ensures { (ws : List value_spec.Written) → (k : word_spec.Key) → k.merges ≡ true
-        → (inside : Bool) → (keys : List (List ℕ)) → (inside ≡ false → keys ≡ [])
-        → Steps (done_entries ws k) inside keys seen result }
-{
-    let Seen {
-        depth: _,
-        deepest,
-        depths,
-    } = seen;
-    Seen {
-        depth: (deepest + 1).min(DEEP),
-        deepest,
-        depths,
-    }
-}
-
 /// What is new in a map that has at this key a value of such a depth.
 fn keyed(alloc: Global, key: &str, depth: u64) -> Result<Seen, AllocError>
     requires { depth ≤ 33 }
@@ -195,7 +158,11 @@ fn entered(
         (chain_keys (stack_view (take place blocks.now))) seen s) }
 {
     if pending.key.merges {
-        return Ok(merged(seen));
+        return Ok(Seen {
+            depth: (seen.deepest + 1).min(DEEP),
+            deepest: seen.deepest,
+            depths: seen.depths,
+        });
     }
     let seen = keyed(alloc, pending.key.name.as_str(), seen.depth)?;
     unseen(alloc, blocks, place, arrivals, seen)
@@ -215,7 +182,11 @@ fn around(
         (chain_keys (stack_view (take place blocks.now))) seen s) }
 {
     match &blocks[place].block.done {
-        Done::Items(_) => Ok(listed(seen)),
+        Done::Items(_) => Ok(Seen {
+            depth: (seen.depth + 1).min(DEEP),
+            deepest: seen.deepest,
+            depths: seen.depths,
+        }),
         Done::Entries(pending) => entered(alloc, blocks, place, arrivals, pending, seen),
         Done::Alone => Ok(seen),
     }

@@ -8,7 +8,6 @@ returns c =
     let values = of-values c.args.pairs.now in
     ap (λ (name : List ℕ). run_groups_of name values) (sym c.in_ok-program.ensures)
     ∙ run-of c.in_ok-program.program values c.in_ok-isa.isa c.in_ok-device.device
-    c.in_ok-device.work c.in_ok-groups.groups c.in_ok-part.part c.in_ok-families.families
-    c.in_ok-isa.ensures c.in_ok-groups.ensures c.in_ok-device.ensures.read.0
-    c.in_ok-device.ensures.read.1
-    c.in_ok-part.ensures c.in_ok-families.ensures
+    c.in_ok-device.work c.in_ok-isa.groups c.in_ok-part.part c.in_ok-isa.families
+    c.in_ok-isa.ensures.read.0 c.in_ok-isa.ensures.read.1.0 c.in_ok-device.ensures.read.0
+    c.in_ok-device.ensures.read.1 c.in_ok-part.ensures c.in_ok-isa.ensures.read.1.1

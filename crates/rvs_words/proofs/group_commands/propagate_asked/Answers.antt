@@ -8,8 +8,8 @@ use Rattle.rvs_words.proofs.group_commands.propagate_asked.Goals as goal
 pub returns : goal.returns
 returns c =
     let spelled = values_of (codes "--signature") c.args.pairs.now in
-    propagate-of (of-values c.args.pairs.now) c.in_ok-isa.isa c.in_ok-groups.groups
-    c.in_ok-names.names c.in_ok-logs.logs c.in_ok-families.families c.in_ok-progress.progress
-    c.in_ok-isa.ensures c.in_ok-groups.ensures c.in_ok-names.ensures
+    propagate-of (of-values c.args.pairs.now) c.in_ok-isa.isa c.in_ok-isa.groups
+    c.in_ok-names.names c.in_ok-logs.logs c.in_ok-isa.families c.in_ok-progress.progress
+    c.in_ok-isa.ensures.read.0 c.in_ok-isa.ensures.read.1.0 c.in_ok-names.ensures
     (ap (λ (l : List (List ℕ)). signed_logs l spelled) (sym c.as_slice.ensures)
-    ∙ c.in_ok-logs.ensures) c.in_ok-families.ensures c.in_ok-progress.ensures
+    ∙ c.in_ok-logs.ensures) c.in_ok-isa.ensures.read.1.1 c.in_ok-progress.ensures

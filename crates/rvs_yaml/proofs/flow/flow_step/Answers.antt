@@ -1,12 +1,11 @@
 use Rattle.std.proofs.Common.{rules, ◌≡◌, ◌∙◌, sym, ap}
-use Rattle.rvs_tree.specs.ValueView.{value_view}
 use Rattle.rvs_yaml.specs.Flow.{with_token}
 use Rattle.rvs_yaml.specs.FlowSteps.{flow_step, open_in, moved}
 use Rattle.rvs_yaml.specs.FlowView.{place_view, levels_view, reading_view}
 use Rattle.rvs_yaml.specs.StackView.{known_view}
 use Rattle.rvs_yaml_text.specs.TokenView.{token_view}
 use Rattle.rvs_yaml_text.specs.WordView.{bracket_view}
-use Rattle.rvs_yaml.proofs.Giving.{gives_same, decides_gives, decides_fails}
+use Rattle.rvs_yaml.proofs.Giving.{gives_same}
 use Rattle.rvs_yaml.proofs.flow.flow_step.Goals as goal
 
 pub returns-in_default : goal.returns-in_default
@@ -24,17 +23,4 @@ returns-in_default c =
     record {
       given = gives_same _ _ _ _ e c.moved.ensures.given;
       refused = λ kind h. c.moved.ensures.refused kind (e ∙ h);
-    }
-
-pub returns-in-Whole : goal.returns-in-Whole
-returns-in-Whole c =
-    let a = c.args in
-    let known = known_view a.known.now in
-    let t = token_view a.token in
-    let e = ap (λ r. flow_step a.known.now.poor known a.line (reading_view r) t) c.in-Whole.is in
-    let h = c.behind_whole-told.ensures a.known.now.poor known a.line (value_view c.in-Whole.value)
-    c.in-Whole.field-1 in
-    record {
-      given = decides_gives _ _ _ _ (sym e) h;
-      refused = λ kind is. decides_fails reading_view _ _ h kind (sym e ∙ is);
     }

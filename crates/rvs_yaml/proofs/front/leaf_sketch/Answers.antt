@@ -18,4 +18,5 @@ returns-in-Entries c =
     (λ (p : Pending). done_entries (entries_view p.list.entries.items) (key_view p.key))
     c.deref.ensures) in
     subst (λ d. SketchedAs c.entry_sketch.result (closed_value d line v)) (sym here)
-    (c.entry_sketch.ensures line v c.sketch_of.ensures.sketched c.brought-deepest.ensures.bound)
+    (c.entry_sketch.ensures line v (c.sketch_of.ensures.own c.args.own.now.bounded)
+    c.brought-deepest.ensures.bound)

@@ -9,7 +9,7 @@ use Rattle.rvs_index.specs.Counting.{aims_in, hits_insn}
 use Rattle.rvs_index.specs.State.{added}
 use Rattle.rvs_index.specs.declared.cell.Cell.{Cell}
 use Rattle.rvs_index.proofs.Cells.{added_cell, low_cell}
-use Rattle.rvs_index.proofs.Registers.{register_cell}
+use Rattle.rvs_index.proofs.Registers.{near_look, register_cell}
 use Rattle.rvs_index.proofs.index.Index.add_register.Goals as goal
 
 pub add_entry-requires-clause-within : goal.add_entry-requires-clause-within
@@ -34,7 +34,7 @@ add_entry-requires-clause-within c =
     c.self.invariant.7 c.self.invariant.3 c.self.invariant.11 c.number.ensures.low
     c.field_of.ensures.low c.requires.small list in
     let is : IsCell q (get_or lists (n * bucket_count + b) []) cell = both.0 in
-    let near = rw c.from.ensures at (sym c.is_look.ensures ∙ c.if-is_look.false) in
+    let near = rw c.from.ensures at (near_look _ c.if-entry.false) in
     let whole : cell.more ≡ false = both.1.few near in
     let within : n * bucket_count + b < length lists =
     omega (
@@ -51,8 +51,8 @@ add_entry-requires-clause-within c =
     (omega (arith, c.requires.fits.some)) is whole in
     rw c.from.ensures (omega (arith, both.1.low near, low.0))
 
-pub returns-else-is_look : goal.returns-else-is_look
-returns-else-is_look c =
+pub returns-else-entry : goal.returns-else-entry
+returns-else-entry c =
     let n = c.number.result in
     let field = c.field_of.result in
     let r = c.args.register in
@@ -73,7 +73,7 @@ returns-else-is_look c =
     c.self.invariant.7 c.self.invariant.3 c.self.invariant.11 c.number.ensures.low
     c.field_of.ensures.low c.requires.small list in
     let is : IsCell q (get_or lists (n * bucket_count + b) []) cell = both.0 in
-    let near = rw c.from.ensures at (sym c.is_look.ensures ∙ c.if-is_look.false) in
+    let near = rw c.from.ensures at (near_look _ c.if-entry.false) in
     let whole : cell.more ≡ false = both.1.few near in
     let within : n * bucket_count + b < length lists =
     omega (

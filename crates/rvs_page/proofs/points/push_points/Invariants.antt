@@ -1,0 +1,9 @@
+use Rattle.std.proofs.Common.{◌≡◌, ◌++◌, drop}
+use Rattle.std.specs.List.{flat_map}
+use Rattle.rvs_page.specs.Points.{label_points}
+use Rattle.rvs_page.proofs.points.push_points.Given as goal
+
+abbrev pub invariant-loop-label : goal.invariant-loop-label
+invariant-loop-label l =
+    l.page.items ++ flat_map (label_points l.counted) (drop l.label-index l.labels)
+    ≡ l.initial.page.items ++ flat_map (label_points l.counted) l.labels
