@@ -2,13 +2,11 @@
 use Rattle.std.proofs.Common.{◌≡◌, ℕ, ◌+◌, ◌<◌, List, [], ◌∷◌}
 use Rattle.std.proofs.Common.{◌++◌, length, map, drop, get_or, flat_map, refl}
 use Rattle.std.proofs.Common.{arith, append_assoc, append-nil}
-use Rattle.std.proofs.lemmas.List.{drop_more, length-map}
-use Rattle.rvs_points.specs.PointView.{label_view, point_view, skipped_view}
-use Rattle.rvs_points.specs.declared.group.Label.{Label}
+use Rattle.std.proofs.lemmas.List.{drop_more}
+use Rattle.rvs_points.specs.PointView.{point_view, skipped_view}
 use Rattle.rvs_points.specs.declared.group.Point.{Point}
 use Rattle.rvs_points.specs.declared.group.Skipped.{Skipped}
-use Rattle.rvs_index.specs.Counting.{aims_of_label}
-use Rattle.rvs_count.specs.Report.{point_line, points_text, skipped_line, width}
+use Rattle.rvs_count.specs.Report.{point_line, points_text, skipped_line}
 
 drop-all : {A : Type 0} (xs : List A) → drop (length xs) xs ≡ []
 drop-all [] = refl
@@ -34,8 +32,3 @@ skipped_more text ss i d h = grind (arith, append_assoc, flat_map, drop_more)
 pub skipped_all : (text : List ℕ) (ss : List Skipped)
     → text ++ flat_map skipped_line (map skipped_view (drop (length ss) ss)) ≡ text
 skipped_all text ss = simp (flat_map, drop-all, append-nil)
-
--- a label has a count for each of its points that are aimed at
-pub width_is : (label : Label)
-    → width (label_view label) ≡ length (aims_of_label (label_view label))
-width_is label = grind (arith, length-map)

@@ -1,11 +1,13 @@
 // Counting in a log that is there whole.
-ghost use Rattle.std.specs.Prelude.{◌≡◌, ◌≤◌, ◌^◌, IfOk, length, map};
+ghost use Rattle.std.specs.Prelude.{◌≡◌, ◌≤◌, [], IfOk, List, length, map};
 ghost use Rattle.rvs_log.specs.Entries.{entries_of};
 ghost use Rattle.rvs_index.specs.Counting.{aims_in, count, kept};
+ghost use Rattle.rvs_index.specs.State.{state_of};
 ghost use Rattle.rvs_log.specs.Lines.{log_limit};
+ghost use Rattle.rvs_points.specs.declared.group.Label.{Label};
+ghost use Rattle.rvs_base.specs.declared.asked.Window.{Window};
 
-use crate::counter::new_counter;
-use crate::tally::Tally;
+use crate::counter::{Counter, new_counter};
 use rvs_base::{Items, NoMemory, Window, release};
 use rvs_points::Groups;
 use std::alloc::Global;
@@ -35,16 +37,25 @@ pub fn count_log(
         ≡ length (kept windows (entries_of log.now))) }
 {
     let mut counter = new_counter(alloc, groups, windows)?;
-    counter.read_whole(log);
-    let counted = figures(alloc, counter.told());
+    let counted = count_whole(alloc, &mut counter, log);
     release(counter);
     counted
 }
 
-fn figures(alloc: Global, tally: &Tally<'_>) -> Result<Counted, NoMemory>
-    ensures counts { IfOk result (λ c. c.counts ≡ tally.now.counts) }
-    ensures instructions { IfOk result (λ c. c.instructions ≡ tally.now.instructions) }
+/// The same with a counter that was fed nothing.
+fn count_whole(alloc: Global, counter: &mut Counter<'_>, log: &[u8]) -> Result<Counted, NoMemory>
+    requires new { counter.old.fed ≡ 0 }
+    requires short { length log.now ≤ log_limit }
+    ensures counts { (labels : List Label) (windows : List Window)
+        → counter.old ≡ state_of labels windows [] 0
+        → IfOk result (λ c. c.counts
+        ≡ map (count (kept windows (entries_of log.now))) (aims_in labels)) }
+    ensures instructions { (labels : List Label) (windows : List Window)
+        → counter.old ≡ state_of labels windows [] 0
+        → IfOk result (λ c. c.instructions ≡ length (kept windows (entries_of log.now))) }
 {
+    counter.read_whole(log);
+    let tally = counter.told();
     let counts = Vec::from_slice(alloc, tally.counts())?;
     Ok(Counted {
         counts: Items::from(counts),

@@ -9,6 +9,16 @@ use rvs_insn::Op;
 use rvs_points::{Kind, Label, Point, Said, read_key};
 use std::alloc::Global;
 
+const MNEMONICS: [&str; 8] = ["add", "sub", "xor", "or", "and", "slt", "sltu", "mul"];
+
+const REGISTERS: [&str; 8] = ["x8", "x9", "x10", "x11", "x12", "x13", "x14", "x15"];
+
+const EQUATIONS: [&str; 3] = ["rs1 == rs2", "rs1 != rs2", "rs1 == rd"];
+
+const COMPARISONS: [&str; 3] = ["rs1_val > 0", "rs1_val < 0", "rs1_val == 0"];
+
+const HAZARDS: [&str; 1] = ["[? : ?] :: [a=rd : ?] :: [? : rs1 == a or rs2 == a]"];
+
 /// The point of a key, where it says one.
 fn point(alloc: Global, kind: Kind, key: &str) -> Result<Option<Point>, NoMemory>
     ensures { IfOk result
@@ -49,18 +59,13 @@ fn add_all(alloc: Global, points: &mut Vec<Point>) -> Result<(), NoMemory>
     ensures { OnOk result (map point_view points.new.items
         ≡ map point_view points.old.items ++ spec.points) }
 {
-    let mnemonics = ["add", "sub", "xor", "or", "and", "slt", "sltu", "mul"];
-    let registers = ["x8", "x9", "x10", "x11", "x12", "x13", "x14", "x15"];
-    let equations = ["rs1 == rs2", "rs1 != rs2", "rs1 == rd"];
-    let comparisons = ["rs1_val > 0", "rs1_val < 0", "rs1_val == 0"];
-    let hazards = ["[? : ?] :: [a=rd : ?] :: [? : rs1 == a or rs2 == a]"];
-    add_points(alloc, points, Kind::Mnemonic, &mnemonics)?;
-    add_points(alloc, points, Kind::Rs1, &registers)?;
-    add_points(alloc, points, Kind::Rs2, &registers)?;
-    add_points(alloc, points, Kind::Rd, &registers)?;
-    add_points(alloc, points, Kind::OpComb, &equations)?;
-    add_points(alloc, points, Kind::ValComb, &comparisons)?;
-    add_points(alloc, points, Kind::CrossComb, &hazards)?;
+    add_points(alloc, points, Kind::Mnemonic, &MNEMONICS)?;
+    add_points(alloc, points, Kind::Rs1, &REGISTERS)?;
+    add_points(alloc, points, Kind::Rs2, &REGISTERS)?;
+    add_points(alloc, points, Kind::Rd, &REGISTERS)?;
+    add_points(alloc, points, Kind::OpComb, &EQUATIONS)?;
+    add_points(alloc, points, Kind::ValComb, &COMPARISONS)?;
+    add_points(alloc, points, Kind::CrossComb, &HAZARDS)?;
     Ok(())
 }
 
@@ -85,8 +90,9 @@ pub(crate) fn label(alloc: Global) -> Result<Label, NoMemory>
         Op::Slt,
         Op::Sltu,
         Op::Mul,
-    ];
-    let (ops, points) = beside(ops.to_vec(alloc), points)?;
+    ]
+    .to_vec(alloc);
+    let (ops, points) = beside(ops, points)?;
     let (name, (ops, points)) = beside(String::from_str(alloc, "demo"), (ops, points))?;
     Ok(Label {
         name: Text::from(name),

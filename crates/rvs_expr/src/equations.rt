@@ -26,34 +26,16 @@ pub(crate) fn signed(alloc: Global, value: i64) -> Result<Num, NoMemory>
     }
 }
 
-/// A number from -2^32 to 2^32.
-fn small(value: i128) -> Option<i64>
-    ensures { result ≡ spec.small_one value }
-{
-    if value.unsigned_abs() <= 1 << 32 {
-        Some(value as i64)
-    } else {
-        None
-    }
-}
-
 /// The value of a part without names, where it is from -2^32 to 2^32.
 fn constant(num: &Num) -> Option<i64>
     requires { IsNarrow (num_view num.now) }
     ensures { result ≡ spec.small (value nothing (num_view num.now)) }
 {
-    match constant_of(num) {
-        None => None,
-        Some(value) => small(value),
-    }
-}
-
-fn with_name(name: NumName, constant: Option<i64>) -> Option<(NumName, i64)>
-    ensures { result ≡ spec.with_name name constant }
-{
-    match constant {
-        None => None,
-        Some(value) => Some((name, value)),
+    let value = constant_of(num)?;
+    if value.unsigned_abs() <= 1 << 32 {
+        Some(value as i64)
+    } else {
+        None
     }
 }
 
@@ -64,7 +46,7 @@ pub(crate) fn equation(formula: &Formula) -> Option<(NumName, i64)>
 {
     match formula {
         Formula::Numbers(NumChain::Pair(Num::Name(name), Comparison::Equal, right)) => {
-            with_name(*name, constant(right))
+            Some((*name, constant(right)?))
         }
         _ => None,
     }

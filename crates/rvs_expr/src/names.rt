@@ -63,8 +63,9 @@ fn uses_reg(formula: &Formula, name: RegName) -> bool
         Formula::Numbers(_) => false,
         Formula::Registers(chain) => chain_uses_reg(chain, name),
         Formula::Negation(part) => uses_reg(part, name),
-        Formula::Both(left, right) => uses_reg(left, name) || uses_reg(right, name),
-        Formula::Either(left, right) => uses_reg(left, name) || uses_reg(right, name),
+        Formula::Both(left, right) | Formula::Either(left, right) => {
+            uses_reg(left, name) || uses_reg(right, name)
+        }
     }
 }
 

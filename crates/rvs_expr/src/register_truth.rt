@@ -17,8 +17,9 @@ pub(crate) fn only_registers(formula: &Formula) -> bool
         Formula::Numbers(_) => false,
         Formula::Registers(_) => true,
         Formula::Negation(part) => only_registers(part),
-        Formula::Both(left, right) => only_registers(left) && only_registers(right),
-        Formula::Either(left, right) => only_registers(left) && only_registers(right),
+        Formula::Both(left, right) | Formula::Either(left, right) => {
+            only_registers(left) && only_registers(right)
+        }
     }
 }
 

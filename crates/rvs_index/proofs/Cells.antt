@@ -7,7 +7,7 @@ use Rattle.std.proofs.Common.{subst}
 use Rattle.std.proofs.Common.{◌∙◌, All, arith, length, get_or, rules}
 use Rattle.std.proofs.lemmas.Bool.Decides.{nat_tests}
 use Rattle.std.specs.Ordering.{int_eq}
-use Rattle.std.specs.Prelude.{IfSome, nat_lt, option_map, unsigned_abs}
+use Rattle.std.specs.Prelude.{IfSome, option_map, unsigned_abs}
 use Rattle.rvs_points.proofs.Distinct.{both-ways}
 use Rattle.rvs_points.specs.PointView.{point_view}
 use Rattle.rvs_points.specs.Hits.{holds, is_register}
@@ -97,12 +97,6 @@ two_add q s s' y y' c says says' e = subst (IsCell q (s ∷ s' ∷ [])) (sym e) 
     }
 
 -- ---- the list of a fact's value
-below : (a b : ℕ) → a < b → nat_lt a b ≡ true
-below a b h = grind (arith, nat_tests)
-
-not_below : (a b : ℕ) → b ≤ a → nat_lt a b ≡ false
-not_below a b h = grind (arith, nat_tests)
-
 -- it is for the fact
 pub asked_there : (q : Asked) (z : ℤ) → asked_at (asked_bucket q z) ≡ Some q
 asked_there q z = search rules

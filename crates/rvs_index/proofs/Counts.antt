@@ -1,5 +1,5 @@
 -- One instruction more adds to the counts what the log's definition of them says.
-use Rattle.std.proofs.Common.{◌≡◌, ℕ, ◌+◌, Bool, false, ◌&&◌, ◌||◌, List, [], ◌∷◌, ◌++◌}
+use Rattle.std.proofs.Common.{◌≡◌, ℕ, ◌+◌, Bool, false, ◌||◌, List, [], ◌∷◌, ◌++◌}
 use Rattle.std.proofs.Common.{Option, refl, sym, ap, ◌∙◌, length, arith, rules}
 use Rattle.std.proofs.lemmas.List.{map-append}
 use Rattle.std.proofs.lemmas.List.Sums.{sum_by_push}
@@ -22,9 +22,6 @@ abbrev aim : List Op → Kind → List ℕ → Meaning → Aim
 aim ops k key m = record { ops = ops; point = record { kind = k; key = key; meaning = m } }
 
 -- ---- an instruction alone hits no cross point
-and_false : (b : Bool) → (b && false) ≡ false
-and_false b = grind arith
-
 or_false : (b : Bool) → (b || false) ≡ b
 or_false b = grind arith
 

@@ -4,7 +4,6 @@ use Rattle.std.specs.Prelude.{ℕ, ℤ, pos, Bool, true, false, List, [], ◌∷
 use Rattle.std.specs.Prelude.{◌+◌, ◌*◌, ◌%◌, ◌^◌, ◌==◌, bit_and, if◌then◌else◌, option_map}
 use Rattle.std.specs.Prelude.{slice_index_or}
 use Rattle.std.specs.Int.{int_rem_euclid}
-use Rattle.std.specs.Ordering.{int_eq}
 use Rattle.rvs_expr_text.specs.declared.lexeme.NumName.TheVariants.{Rs1Val, Rs2Val, ImmVal}
 use Rattle.rvs_expr_text.specs.declared.lexeme.RegName.TheVariants.{Rd, Rs1, Rs2}
 use Rattle.rvs_expr.specs.declared.formula.Comparison.{Comparison}
@@ -39,13 +38,7 @@ shift_bits v =
 abbrev pub by_four : Option ℤ → Option ℤ
 by_four v = option_map (λ x. int_rem_euclid x (pos 4)) v
 
--- whether a remainder is 0, 1, 2 and 3, as four bits
-abbrev pub rest_bits : ℤ → ℕ
-rest_bits x =
-    bit (int_eq x (pos 0)) + 2 * bit (int_eq x (pos 1)) + 4 * bit (int_eq x (pos 2))
-    + 8 * bit (int_eq x (pos 3))
-
--- the same of a number's remainder by 4
+-- whether a number's remainder by 4 is 0, 1, 2 and 3, as four bits
 abbrev pub four_bits : Option ℤ → ℕ
 four_bits v =
     bit (compares Equal (by_four v) (Some (pos 0)))

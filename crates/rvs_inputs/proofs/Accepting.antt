@@ -1,14 +1,14 @@
 -- What comes of pieces of work that have no effects.
-use Rattle.std.proofs.Common.{◌≡◌, ◌∙◌, ℕ, List, Result, Ok, Err, refl, sym, ap, subst, inl, inr}
+use Rattle.std.proofs.Common.{◌≡◌, ℕ, List, Result, Ok, Err, refl, sym, subst, inl, inr}
 use Rattle.rvs_base.specs.Answers.{Answers, AnswersAs, seen}
 use Rattle.rvs_base.specs.declared.fault.Fault.{Fault}
 use Rattle.rvs_base.specs.declared.fault.Fault.TheVariants as fault
 use Rattle.rvs_plan.specs.World.{World, contents}
 use Rattle.rvs_plan.specs.Plan.{Ends}
 use Rattle.rvs_plan.specs.Meets.{Meets}
-use Rattle.rvs_plan.specs.Refusing.{end_at, input_text, Stops}
+use Rattle.rvs_plan.specs.Refusing.{end_at, Stops}
 use Rattle.rvs_plan.specs.declared.stop.Stop.{Stop}
-use Rattle.rvs_plan.specs.declared.stop.Stop.TheVariants.{Refused, NoMemory}
+use Rattle.rvs_plan.specs.declared.stop.Stop.TheVariants.{Refused}
 use Rattle.rvs_plan.proofs.Reaching.{Reaches-start}
 use Rattle.rvs_plan.proofs.Amounts.{IsUnread-same, ReadsOnWay-start}
 use Rattle.rvs_plan.proofs.Sequence.{Later-start, Unfaulted-start, Meets-gives, Meets-no_memory}
@@ -61,32 +61,3 @@ Meets-stops_as see look said name found (Err (fault.Refused q)) result w is (inr
     rw (is q refl, told) (Meets-refused _ w)
 Meets-stops_as see look said name found (Err fault.NoMemory) result w is none =
     rw none (Meets-no_memory _ w)
-
--- what was accepted is what the definition says of the input
-pub accepted-is : {A B Q R : Type 0} (see : A → B) (look : Q → R) (said : R → List ℕ)
-    (name : List ℕ) (found : Result B R) (answer : Result A (Fault Q)) (a : A)
-    → AnswersAs see look answer found → Stops (λ q. said (look q)) name answer (Ok a)
-    → found ≡ Ok (see a)
-accepted-is see look said name found (Ok b) a is stops = let same : b ≡ a = cc in
-    is ∙ ap (λ x. Ok (see x)) same
-accepted-is see look said name found (Err (fault.Refused q)) a is (inl none) = cc
-accepted-is see look said name found (Err (fault.Refused q)) a is (inr told) = cc
-accepted-is see look said name found (Err fault.NoMemory) a is none = cc
-
--- where it wasn't, a plan that ends with its refusal is done
-pub Meets-unaccepted : {A B C Q R : Type 0} (see : A → B) (look : Q → R) (said : R → List ℕ)
-    (name : List ℕ) (end : Result B R → Result C Stop) (found : Result B R)
-    (answer : Result A (Fault Q)) (stop : Stop) (w : World)
-    → ((refusal : R) → end (Err refusal) ≡ Err (Refused (input_text name (said refusal))))
-    → AnswersAs see look answer found → Stops (λ q. said (look q)) name answer (Err stop)
-    → Meets (Ends (end found)) w w (Err stop)
-Meets-unaccepted see look said name end found (Ok a) stop w ends is stops = absurd cc
-Meets-unaccepted see look said name end found (Err (fault.Refused q)) stop w ends is
-    (inl none) =
-    let e : stop ≡ NoMemory = cc in rw e (Meets-no_memory (Ends (end found)) w)
-Meets-unaccepted see look said name end found (Err (fault.Refused q)) stop w ends is
-    (inr told) =
-    let e : stop ≡ Refused (input_text name (said (look q))) = cc in
-    rw e (Meets-refused_by (end found) _ w (ap end (is q refl) ∙ ends (look q)))
-Meets-unaccepted see look said name end found (Err fault.NoMemory) stop w ends is none =
-    let e : stop ≡ NoMemory = cc in rw e (Meets-no_memory (Ends (end found)) w)

@@ -5,3 +5,4 @@ pub mod Readers
 pub mod GroupInputs
 pub mod PartsKept
 pub mod Chains
+pub mod TreeFirst

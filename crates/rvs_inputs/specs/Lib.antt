@@ -5,3 +5,4 @@ pub mod GroupFiles
 pub mod GroupsView
 pub mod DeviceInput
 pub mod DatabaseInput
+pub mod TreeInput

@@ -4,11 +4,11 @@ ghost use Rattle.rvs_plan.specs.World.{world};
 ghost use Rattle.rvs_plan.specs.Meets.{Meets};
 ghost use Rattle.rvs_inputs.specs.DatabaseInput.{database_file};
 
+use crate::tree_file::read_tree;
 use rvs_base::{Host, Text};
 use rvs_insn::IsaSpec;
-use rvs_plan::{Stop, accepted, read_input};
+use rvs_plan::{Stop, accepted};
 use rvs_select::{Database, read_database};
-use rvs_yaml::parse;
 use std::alloc::Global;
 
 /// The greatest length of a database in bytes: 4 MiB.
@@ -30,7 +30,6 @@ pub fn read_database_file<H: Host>(
         (world (H.state host.old) out) (world (H.state host.new) out) result }
 {
     let name = name.as_str();
-    let bytes = read_input(alloc, host, name, DATABASE_LIMIT)?;
-    let tree = accepted(alloc, name, parse(alloc, bytes.as_slice()))?;
+    let tree = read_tree(alloc, host, name, DATABASE_LIMIT)?;
     accepted(alloc, name, read_database(alloc, &tree, isa))
 }

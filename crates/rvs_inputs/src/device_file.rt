@@ -6,10 +6,10 @@ ghost use Rattle.rvs_plan.specs.Meets.{Meets};
 ghost use Rattle.rvs_device.specs.DeviceView.{told};
 ghost use Rattle.rvs_inputs.specs.DeviceInput.{device_file};
 
+use crate::tree_file::read_tree;
 use rvs_base::{Host, Text};
 use rvs_device::{Device, read_device};
-use rvs_plan::{Stop, accepted, read_input};
-use rvs_yaml::parse;
+use rvs_plan::{Stop, accepted};
 use std::alloc::Global;
 
 /// The greatest length of a device file in bytes.
@@ -26,7 +26,6 @@ pub fn read_device_file<H: Host>(alloc: Global, host: &mut H, name: &Text) -> Re
         (world (H.state host.old) out) (world (H.state host.new) out) (seen told result) }
 {
     let name = name.as_str();
-    let bytes = read_input(alloc, host, name, DEVICE_LIMIT)?;
-    let tree = accepted(alloc, name, parse(alloc, bytes.as_slice()))?;
+    let tree = read_tree(alloc, host, name, DEVICE_LIMIT)?;
     accepted(alloc, name, read_device(alloc, &tree))
 }

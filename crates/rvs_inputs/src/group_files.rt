@@ -12,12 +12,12 @@ ghost use Rattle.rvs_inputs.specs.GroupFiles.{joined, joins, joins_all, room, wi
 ghost use Rattle.rvs_inputs.specs.GroupFiles.{group_files, group_inputs};
 
 use crate::isa_file::read_isa;
+use crate::tree_file::tree_in;
 use rvs_abstract::Families;
 use rvs_base::{Bytes, Host, Items, NoMemory, Text, release};
 use rvs_cgf::{Groups, read_groups};
 use rvs_insn::IsaSpec;
 use rvs_plan::{Stop, accepted, read_part, too_long};
-use rvs_yaml::parse;
 use std::alloc::Global;
 
 /// The greatest length in bytes of all group files together, with the line feeds between them:
@@ -81,7 +81,7 @@ fn read_group_files<H: Host>(
     ensures valid { IfOk result (All (λ l. IsValidIfSelected isa.now (label_view l))) }
 {
     let text = read_joined(alloc, host, names.as_slice())?;
-    let tree = accepted(alloc, GROUPS_NAME, parse(alloc, text.as_slice()))?;
+    let tree = tree_in(alloc, GROUPS_NAME, text.as_slice())?;
     drop(text);
     accepted(alloc, GROUPS_NAME, read_groups(alloc, &tree, isa, families))
 }

@@ -4,10 +4,10 @@ ghost use Rattle.rvs_plan.specs.World.{world};
 ghost use Rattle.rvs_plan.specs.Meets.{Meets};
 ghost use Rattle.rvs_inputs.specs.Specification.{specification};
 
+use crate::tree_file::read_tree;
 use rvs_base::{Host, Text};
 use rvs_isa::{AcceptedSpec, check};
-use rvs_plan::{Stop, accepted, read_input};
-use rvs_yaml::parse;
+use rvs_plan::{Stop, accepted};
 use std::alloc::Global;
 
 /// The greatest length of an ISA file in bytes.
@@ -24,7 +24,6 @@ pub fn read_isa<H: Host>(alloc: Global, host: &mut H, name: &Text) -> Result<Acc
         (world (H.state host.new) out) result }
 {
     let name = name.as_str();
-    let bytes = read_input(alloc, host, name, ISA_LIMIT)?;
-    let tree = accepted(alloc, name, parse(alloc, bytes.as_slice()))?;
+    let tree = read_tree(alloc, host, name, ISA_LIMIT)?;
     accepted(alloc, name, check(alloc, &tree))
 }

@@ -2,6 +2,7 @@ pub mod Paths
 pub mod Unreads
 pub mod Canonical
 pub mod Grammar
+pub mod Hart
 pub mod Rows
 pub mod Listed
 pub mod Alike

@@ -2,6 +2,7 @@
 use Rattle.std.proofs.Common.{◌≡◌, ℕ, ◌+◌, true, List, [], ◌∷◌, ◌++◌, Option, Some, None, map}
 use Rattle.std.proofs.Common.{Bor, if◌then◌else◌, bytes_eq}
 use Rattle.std.proofs.Common.{option_map, slice_get, take, flat_map, ap, sym, ◌∙◌, append-nil}
+use Rattle.std.proofs.Common.{append_assoc}
 use Rattle.std.proofs.Common.{arith}
 use Rattle.std.specs.List.{list_any}
 use Rattle.std.proofs.lemmas.List.{take_more}
@@ -13,6 +14,12 @@ use Rattle.rvs_isa.specs.Refusal.{path_text}
 -- what the first entries of a map add
 abbrev pub first_entries : (List ℕ → Data → List (List ℕ)) → ℕ → Data → List (List ℕ)
 first_entries unread i d = flat_map (λ p. unread p.0 p.1) (take i (own_pairs d))
+
+-- what an entry adds is behind what those before it added
+pub adds : {A : Type 0} (before now new so_far more added : List A)
+    → new ≡ now ++ added → now ≡ before ++ so_far → more ≡ so_far ++ added → new ≡ before ++ more
+adds before now new so_far more added e n m =
+    e ∙ ap (λ t. t ++ added) n ∙ append_assoc before so_far added ∙ ap (λ t. before ++ t) (sym m)
 
 same_pair : (o : Option (List ℕ × Data)) (k : List ℕ) (v : Data) → option_map (λ p. p.0) o ≡ Some k
     → option_map (λ p. p.1) o ≡ Some v → o ≡ Some (k, v)

@@ -1,7 +1,7 @@
 // The texts of an accepted specification and of a refusal.
 ghost use Rattle.std.specs.Prelude.{◌≡◌, ◌++◌, IfOk, OnOk};
 ghost use Rattle.rvs_isa.specs.Print.{checked_text, core_lines, refusal_text, unread_line};
-ghost use Rattle.rvs_isa.specs.Print.{word_text, words_text, memory_lines, said_lines};
+ghost use Rattle.rvs_isa.specs.Print.{words_text, memory_lines, said_lines};
 
 use crate::accepted_spec::AcceptedSpec;
 use crate::misa::misa_word;
@@ -39,9 +39,9 @@ fn memory_lines(alloc: Global, tells: bool, memory: MemoryMap) -> Result<Text, N
     if !tells {
         return Ok(Text::new(alloc));
     }
-    let text = word_text(alloc, memory.text_base)?;
-    let data = word_text(alloc, memory.data_base)?;
-    Ok(Text::from(format!(in alloc; "text {text}\ndata {data}\n")?))
+    let text = hex_text(alloc, memory.text_base)?;
+    let data = hex_text(alloc, memory.data_base)?;
+    Ok(Text::from(format!(in alloc; "text 0x{text}\ndata 0x{data}\n")?))
 }
 
 fn push_unread_line(text: &mut Text, path: &str) -> Result<(), NoMemory>
@@ -58,9 +58,9 @@ fn core_lines(alloc: Global, spec: &IsaSpec) -> Result<Text, NoMemory>
     let isa = isa_text(alloc, spec)?;
     let misaligned = spec.misaligned;
     let bits = spec.address_bits;
-    let misa = word_text(alloc, misa_word(spec))?;
+    let misa = hex_text(alloc, misa_word(spec))?;
     let lines = format!(in alloc;
-        "isa {isa}\nmisaligned {misaligned}\naddress_bits {bits}\nmisa {misa}\n"
+        "isa {isa}\nmisaligned {misaligned}\naddress_bits {bits}\nmisa 0x{misa}\n"
     )?;
     Ok(Text::from(lines))
 }
@@ -84,14 +84,7 @@ fn words_text(alloc: Global, kind: IsaKind) -> Result<Text, NoMemory>
     let IsaKind::MisaDisagrees { stated, expected } = kind else {
         return Ok(Text::new(alloc));
     };
-    let stated = word_text(alloc, stated)?;
-    let expected = word_text(alloc, expected)?;
-    Ok(Text::from(format!(in alloc; " stated {stated} expected {expected}")?))
-}
-
-fn word_text(alloc: Global, word: u32) -> Result<Text, NoMemory>
-    ensures { IfOk result (λ text. text ≡ word_text word) }
-{
-    let digits = hex_text(alloc, word)?;
-    Ok(Text::from(format!(in alloc; "0x{digits}")?))
+    let stated = hex_text(alloc, stated)?;
+    let expected = hex_text(alloc, expected)?;
+    Ok(Text::from(format!(in alloc; " stated 0x{stated} expected 0x{expected}")?))
 }

@@ -4,7 +4,7 @@ ghost use Rattle.std.specs.List.{list_any};
 ghost use Rattle.std.specs.Str.{bytes_eq};
 ghost use Rattle.rvs_tree.specs.TreeView.{view};
 ghost use Rattle.rvs_isa.specs.Refusal.{path_text};
-ghost use Rattle.rvs_isa.specs.Unread.{unread, each_entry, is_checked, unread_of_root};
+ghost use Rattle.rvs_isa.specs.Unread.{unread, each_entry, unread_of_root};
 ghost use Rattle.rvs_isa.specs.Unread.{unread_of_hart};
 
 use crate::entry::path_text;
@@ -82,24 +82,12 @@ fn add_of_hart(
     ensures { OnOk result
         (paths.new ≡ paths.old ++ unread_of_hart hart.now key.now (view value.now)) }
 {
-    if key == "misa" {
-        add_inner(alloc, paths, hart, "misa", &["reset-val"], value)
-    } else if key == "memory_map" {
-        add_inner(alloc, paths, hart, "memory_map", &["text", "data"], value)
-    } else if is_checked(key) {
-        Ok(())
-    } else {
-        add_path(alloc, paths, &[hart, key])
+    match key {
+        "misa" => add_inner(alloc, paths, hart, "misa", &["reset-val"], value),
+        "memory_map" => add_inner(alloc, paths, hart, "memory_map", &["text", "data"], value),
+        "ISA" | "supported_xlen" | "physical_addr_sz" | "hw_data_misaligned_support" => Ok(()),
+        _ => add_path(alloc, paths, &[hart, key]),
     }
-}
-
-fn is_checked(key: &str) -> bool
-    ensures { result ≡ is_checked key.now }
-{
-    matches!(
-        key,
-        "ISA" | "supported_xlen" | "physical_addr_sz" | "hw_data_misaligned_support"
-    )
 }
 
 /// Adds the entries of a map under a key of the hart, but for those under the keys that are read.

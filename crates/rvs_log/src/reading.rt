@@ -1,10 +1,8 @@
 // The lines of a log, each by itself.
-ghost use Rattle.std.specs.Prelude.{◌≡◌, ◌<◌, ◌∷◌, [], IfSome, true};
+ghost use Rattle.std.specs.Prelude.{◌≡◌, ◌<◌, IfSome, true};
 ghost use Rattle.std.specs.Option.{option_copied, option_map};
 ghost use Rattle.rvs_insn.specs.Fields.{insn_of_word};
 ghost use Rattle.rvs_log.specs.Grammar.{after_brackets, after_core};
-ghost use Rattle.rvs_log.specs.Grammar.{after_privilege};
-ghost use Rattle.rvs_log.specs.Grammar.{after_text, blank};
 ghost use Rattle.rvs_log.specs.Grammar.{commit_log};
 ghost use Rattle.rvs_log.specs.Grammar.{first_write, pc_and_word, reading_of};
 ghost use Rattle.rvs_log.specs.Grammar.{sail_log, Says, write_at, write_if};
@@ -158,8 +156,10 @@ fn colon_and_privilege(text: &[u8]) -> Option<&[u8]>
 {
     let rest = byte_at(text, b':')?;
     let rest = spaces(rest)?;
-    let rest = privilege(rest)?;
-    spaces(rest)
+    match rest {
+        [b'0'..=b'3', rest @ ..] => spaces(rest),
+        _ => None,
+    }
 }
 
 /// What follows the privilege of a commit log's line.
@@ -168,28 +168,12 @@ fn colon_and_privilege(text: &[u8]) -> Option<&[u8]>
 fn core_front(line: &[u8]) -> Option<&[u8]>
     ensures { option_copied result ≡ after_core line.now }
 {
-    let rest = core_word(line)?;
+    let [b'c', b'o', b'r', b'e', rest @ ..] = line else {
+        return None;
+    };
     let rest = spaces(rest)?;
     let rest = digits(rest)?;
     colon_and_privilege(rest)
-}
-
-fn core_word(line: &[u8]) -> Option<&[u8]>
-    ensures { option_copied result ≡ after_text (99 ∷ 111 ∷ 114 ∷ 101 ∷ []) line.now }
-{
-    match line {
-        [b'c', b'o', b'r', b'e', rest @ ..] => Some(rest),
-        _ => None,
-    }
-}
-
-fn privilege(text: &[u8]) -> Option<&[u8]>
-    ensures { option_copied result ≡ after_privilege text.now }
-{
-    match text {
-        [b'0'..=b'3', rest @ ..] => Some(rest),
-        _ => None,
-    }
 }
 
 /// The address and the word that a line of a commit log says, and what follows them, with any hart
@@ -298,36 +282,21 @@ fn sail_log_line(line: &[u8]) -> Option<Record<'_>>
     })
 }
 
-/// Nothing, where the text is nothing but spaces.
-fn only_spaces(text: &[u8]) -> Option<&[u8]>
-    ensures { option_copied result ≡ blank text.now }
-{
-    match without_spaces(text) {
-        [] => Some(&[]),
-        _ => None,
-    }
-}
-
-fn arrow(text: &[u8]) -> Option<&[u8]>
-    ensures { option_copied result ≡ after_text (60 ∷ 45 ∷ []) text.now }
-{
-    match text {
-        [b'<', b'-', rest @ ..] => Some(rest),
-        _ => None,
-    }
-}
-
 /// The word that a register got, after an arrow, to the end of the line.
 #[inline(always)]
 fn arrow_and_value(reg: u8, text: &[u8]) -> Option<Commit>
     requires { reg < 32 }
     ensures { result ≡ part.arrow_and_value reg text.now }
 {
-    let rest = arrow(text)?;
+    let [b'<', b'-', rest @ ..] = text else {
+        return None;
+    };
     let rest = spaces(rest)?;
     let (value, rest) = word_at(rest)?;
-    let _ = only_spaces(rest)?;
-    Some(Commit { reg, value })
+    match without_spaces(rest) {
+        [] => Some(Commit { reg, value }),
+        _ => None,
+    }
 }
 
 /// A line that says a write alone, with any spaces and digits.

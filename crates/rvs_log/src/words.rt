@@ -95,25 +95,18 @@ fn more_digits(value: u32, count: u32, rest: &[u8]) -> Option<(u32, &[u8])>
     spelled(count, value, &[])
 }
 
-/// The word that one to sixteen hexadecimal digits at the front spell, and what follows them.
-#[inline(always)]
-fn word_digits(text: &[u8]) -> Option<(u32, &[u8])>
-    ensures { option_map (λ found. (found.0, found.1.now)) result ≡ hex_digits text.now }
-{
-    match eight_digits(text) {
-        None => more_digits(0, 0, text),
-        Some((value, rest)) => more_digits(value, 8, rest),
-    }
-}
-
-/// The word that stands at the front in hexadecimal digits after `0x`, and what follows it.
+/// The word that stands at the front in one to sixteen hexadecimal digits after `0x`, and what
+/// follows it.
 #[tactic(auto, unfolding(crate::specs::Grammar::hex_at))]
 #[inline(always)]
 pub(crate) fn word_at(text: &[u8]) -> Option<(u32, &[u8])>
     ensures { option_map (λ found. (found.0, found.1.now)) result ≡ hex_at text.now }
 {
     match text {
-        [b'0', b'x', rest @ ..] => word_digits(rest),
+        [b'0', b'x', rest @ ..] => match eight_digits(rest) {
+            None => more_digits(0, 0, rest),
+            Some((value, after)) => more_digits(value, 8, after),
+        },
         _ => None,
     }
 }

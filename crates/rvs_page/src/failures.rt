@@ -67,12 +67,15 @@ fn push_folded_cases(alloc: Global, page: &mut Vec<u8>, cases: &[Case]) -> Resul
     if cases.is_empty() {
         return Ok(());
     }
-    let pieces = [
-        html("<details>\n<summary>"),
-        Piece::Number(cases.len() as u64),
-        html(" more cases</summary>\n"),
-    ];
-    push_pieces(alloc, page, &pieces)?;
+    push_pieces(
+        alloc,
+        page,
+        &[
+            html("<details>\n<summary>"),
+            Piece::Number(cases.len() as u64),
+            html(" more cases</summary>\n"),
+        ],
+    )?;
     push_cases_table(alloc, page, cases)?;
     push_html(page, "</details>\n")
 }
@@ -97,18 +100,21 @@ fn push_failure(alloc: Global, page: &mut Vec<u8>, label: &Label) -> Result<(), 
         return Ok(());
     }
     let (class, word) = badge_texts(label.state);
-    let pieces = [
-        html("<article class=\"fail\">\n<h3><b class=\""),
-        html(class),
-        html("\">"),
-        html(word),
-        html("</b> <a href=\"#l-"),
-        text(&label.name),
-        html("\">"),
-        text(&label.name),
-        html("</a></h3>\n<p>"),
-    ];
-    push_pieces(alloc, page, &pieces)?;
+    push_pieces(
+        alloc,
+        page,
+        &[
+            html("<article class=\"fail\">\n<h3><b class=\""),
+            html(class),
+            html("\">"),
+            html(word),
+            html("</b> <a href=\"#l-"),
+            text(&label.name),
+            html("\">"),
+            text(&label.name),
+            html("</a></h3>\n<p>"),
+        ],
+    )?;
     push_said_whole(alloc, page, label)?;
     push_html(page, "</p>\n")?;
     push_cases(alloc, page, label.cases.as_slice())?;

@@ -67,16 +67,19 @@ fn push_points_bar(alloc: Global, page: &mut Vec<u8>, label: &Label) -> Result<(
     let tested = tested(label);
     let unsolved = unsolved(label);
     let skipped = label.skipped.as_slice().len();
-    let pieces = [
-        html("<td class=\"share\"><span class=\"bar\" role=\"img\" aria-label=\"points: "),
-        Piece::Number(tested as u64),
-        html(" tested, "),
-        Piece::Number(unsolved as u64),
-        html(" unsolved, "),
-        Piece::Number(skipped as u64),
-        html(" skipped\">"),
-    ];
-    push_pieces(alloc, page, &pieces)?;
+    push_pieces(
+        alloc,
+        page,
+        &[
+            html("<td class=\"share\"><span class=\"bar\" role=\"img\" aria-label=\"points: "),
+            Piece::Number(tested as u64),
+            html(" tested, "),
+            Piece::Number(unsolved as u64),
+            html(" unsolved, "),
+            Piece::Number(skipped as u64),
+            html(" skipped\">"),
+        ],
+    )?;
     push_segment(alloc, page, "s", tested)?;
     push_segment(alloc, page, "u", unsolved)?;
     push_segment(alloc, page, "k", skipped)?;
@@ -98,14 +101,17 @@ fn push_coverage_cells(
     }
     let hit = hit(label);
     let missed = missed(label);
-    let pieces = [
-        html("<td class=\"share\"><span class=\"bar\" role=\"img\" aria-label=\"coverage: "),
-        Piece::Number(hit as u64),
-        html(" hit, "),
-        Piece::Number(missed as u64),
-        html(" not hit\">"),
-    ];
-    push_pieces(alloc, page, &pieces)?;
+    push_pieces(
+        alloc,
+        page,
+        &[
+            html("<td class=\"share\"><span class=\"bar\" role=\"img\" aria-label=\"coverage: "),
+            Piece::Number(hit as u64),
+            html(" hit, "),
+            Piece::Number(missed as u64),
+            html(" not hit\">"),
+        ],
+    )?;
     push_segment(alloc, page, "h", hit)?;
     push_segment(alloc, page, "m", missed)?;
     end_bar(alloc, page, hit, label.points.as_slice().len())
@@ -131,18 +137,21 @@ fn push_label_row(
         return push_pieces(alloc, page, &pieces);
     }
     let (class, word) = badge_texts(label.state);
-    let pieces = [
-        html("<tr><td><a href=\"#l-"),
-        text(&label.name),
-        html("\">"),
-        text(&label.name),
-        html("</a></td><td><b class=\""),
-        html(class),
-        html("\">"),
-        html(word),
-        html("</b></td><td>"),
-    ];
-    push_pieces(alloc, page, &pieces)?;
+    push_pieces(
+        alloc,
+        page,
+        &[
+            html("<tr><td><a href=\"#l-"),
+            text(&label.name),
+            html("\">"),
+            text(&label.name),
+            html("</a></td><td><b class=\""),
+            html(class),
+            html("\">"),
+            html(word),
+            html("</b></td><td>"),
+        ],
+    )?;
     push_said(alloc, page, label)?;
     push_html(page, "</td>")?;
     push_points_bar(alloc, page, label)?;
@@ -165,14 +174,17 @@ pub fn push_labels(
     ensures { OnOk result (page.new.items
         ≡ page.old.items ++ spec.labels_text counted labels.now) }
 {
-    let pieces = [
-        html(LEGEND),
-        either(counted, LEGEND_MORE, ""),
-        html(COLUMNS),
-        either(counted, "<th>coverage</th><th class=\"n\">hit</th>", ""),
-        html("</tr></thead>\n<tbody>\n"),
-    ];
-    push_pieces(alloc, page, &pieces)?;
+    push_pieces(
+        alloc,
+        page,
+        &[
+            html(LEGEND),
+            either(counted, LEGEND_MORE, ""),
+            html(COLUMNS),
+            either(counted, "<th>coverage</th><th class=\"n\">hit</th>", ""),
+            html("</tr></thead>\n<tbody>\n"),
+        ],
+    )?;
     for label in labels {
         push_label_row(alloc, page, counted, label)?;
     }

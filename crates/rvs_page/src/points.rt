@@ -47,14 +47,17 @@ fn push_point(
     ensures { OnOk result (page.new.items ≡ page.old.items ++ spec.point_row counted point.now) }
 {
     push_case_cell(alloc, page, point.case, point.differs)?;
-    let pieces = [
-        html("</td><td>"),
-        text(&point.kind),
-        html("</td><td class=\"key\">"),
-        text(&point.key),
-        html("</td>"),
-    ];
-    push_pieces(alloc, page, &pieces)?;
+    push_pieces(
+        alloc,
+        page,
+        &[
+            html("</td><td>"),
+            text(&point.kind),
+            html("</td><td class=\"key\">"),
+            text(&point.key),
+            html("</td>"),
+        ],
+    )?;
     if !counted {
         return push_html(page, "</tr>\n");
     }
@@ -91,15 +94,18 @@ fn push_each_skipped(
         ≡ page.old.items ++ flat_map (spec.skipped_row counted) skipped.now) }
 {
     for one in skipped {
-        let pieces = [
-            html("<tr class=\"k\"><td>skipped</td><td>"),
-            text(&one.node),
-            html("</td><td class=\"key\">"),
-            text(&one.key),
-            html("</td>"),
-            either(counted, "<td></td></tr>\n", "</tr>\n"),
-        ];
-        push_pieces(alloc, page, &pieces)?;
+        push_pieces(
+            alloc,
+            page,
+            &[
+                html("<tr class=\"k\"><td>skipped</td><td>"),
+                text(&one.node),
+                html("</td><td class=\"key\">"),
+                text(&one.key),
+                html("</td>"),
+                either(counted, "<td></td></tr>\n", "</tr>\n"),
+            ],
+        )?;
     }
     Ok(())
 }
@@ -117,22 +123,25 @@ fn push_label(
     if !label.selected {
         return Ok(());
     }
-    let pieces = [
-        html("<details id=\"l-"),
-        text(&label.name),
-        html("\">\n<summary>"),
-        text(&label.name),
-        html(" <small>"),
-        Piece::Number(tested(label) as u64),
-        html(" tested, "),
-        Piece::Number(unsolved(label) as u64),
-        html(" unsolved, "),
-        Piece::Number(label.skipped.as_slice().len() as u64),
-        html(COLUMNS),
-        either(counted, "<th class=\"n\">hits</th>", ""),
-        html("</tr></thead>\n<tbody>\n"),
-    ];
-    push_pieces(alloc, page, &pieces)?;
+    push_pieces(
+        alloc,
+        page,
+        &[
+            html("<details id=\"l-"),
+            text(&label.name),
+            html("\">\n<summary>"),
+            text(&label.name),
+            html(" <small>"),
+            Piece::Number(tested(label) as u64),
+            html(" tested, "),
+            Piece::Number(unsolved(label) as u64),
+            html(" unsolved, "),
+            Piece::Number(label.skipped.as_slice().len() as u64),
+            html(COLUMNS),
+            either(counted, "<th class=\"n\">hits</th>", ""),
+            html("</tr></thead>\n<tbody>\n"),
+        ],
+    )?;
     push_each_point(alloc, page, counted, label.points.as_slice())?;
     push_each_skipped(alloc, page, counted, label.skipped.as_slice())?;
     push_html(page, "</tbody>\n</table>\n</details>\n")

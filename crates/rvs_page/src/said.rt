@@ -98,20 +98,23 @@ pub fn push_said_whole(alloc: Global, page: &mut Vec<u8>, label: &Label) -> Resu
             differing,
             words,
         } => {
-            let pieces = [
-                html("word "),
-                Piece::Number(at as u64),
-                html(" is <code>"),
-                Piece::Word(left),
-                html("</code> and <code>"),
-                Piece::Word(right),
-                html("</code>; "),
-                Piece::Number(differing as u64),
-                html(" of "),
-                Piece::Number(words as u64),
-                html(" words and "),
-            ];
-            push_pieces(alloc, page, &pieces)?;
+            push_pieces(
+                alloc,
+                page,
+                &[
+                    html("word "),
+                    Piece::Number(at as u64),
+                    html(" is <code>"),
+                    Piece::Word(left),
+                    html("</code> and <code>"),
+                    Piece::Word(right),
+                    html("</code>; "),
+                    Piece::Number(differing as u64),
+                    html(" of "),
+                    Piece::Number(words as u64),
+                    html(" words and "),
+                ],
+            )?;
             push_cases_said(alloc, page, label)
         },
         state => push_state_said(alloc, page, state),

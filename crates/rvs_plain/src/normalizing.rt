@@ -14,11 +14,11 @@ ghost use Rattle.rvs_plain.specs.Normalize.{normal_files, normal_inputs, normali
 use rvs_abstract::Families;
 use rvs_base::{Bytes, Host, Items, Sink, Text};
 use rvs_cgf::write_groups;
-use rvs_inputs::{GROUPS_NAME, print_text, read_isa, read_joined};
+use rvs_inputs::{GROUPS_NAME, print_text, read_isa, read_joined, tree_in};
 use rvs_insn::IsaSpec;
 use rvs_plan::{Finish, Stop, accepted};
+use rvs_tree::Tree;
 use rvs_words::NormalizeArguments;
-use rvs_yaml::{Tree, parse};
 use std::alloc::Global;
 
 /// Reads coverage group files for the core of an ISA file, and puts the groups with all points
@@ -73,7 +73,7 @@ fn write_text(alloc: Global, isa: &IsaSpec, families: Families, text: Bytes) -> 
     ensures { (w : World) → Meets (Ends (seen normal_text (groups_found isa.now families text)))
         w w result }
 {
-    let tree = accepted(alloc, GROUPS_NAME, parse(alloc, text.as_slice()))?;
+    let tree = tree_in(alloc, GROUPS_NAME, text.as_slice())?;
     drop(text);
     write_tree(alloc, isa, families, &tree)
 }

@@ -1,11 +1,11 @@
 // The report of which hits of a log reached the signature.
-ghost use Rattle.std.specs.Prelude.{◌≡◌, ◌≤◌, ◌++◌, IfOk, IsTrue, OnOk, codes, length, map};
+ghost use Rattle.std.specs.Prelude.{◌≡◌, ◌≤◌, ◌++◌, IfOk, OnOk, codes, length, map};
 ghost use Rattle.rvs_points.specs.PointView.{label_view, meaning_view, point_view};
 ghost use Rattle.rvs_index.specs.Counting.{aims_in};
 ghost use Rattle.rvs_count.specs.Report as count;
 ghost use Rattle.rvs_prop.specs.Report as spec;
 
-use rvs_base::{NoMemory, Text};
+use rvs_base::{NoMemory, Text, beside};
 use rvs_count::{hit_count, push_skipped, push_unselected, width};
 use rvs_points::{Groups, Label, Meaning, Point};
 use std::alloc::Global;
@@ -33,33 +33,7 @@ fn measured(points: &[Point]) -> usize
     count
 }
 
-/// Adds the line of a point with its numbers.
-fn push_measured(
-    alloc: Global,
-    text: &mut Text,
-    reached: u64,
-    hits: u64,
-    point: &Point,
-) -> Result<(), NoMemory>
-    ensures { OnOk result
-        (text.new ≡ text.old ++ spec.measured_line reached hits (point_view point.now)) }
-{
-    let kind = point.kind.name();
-    let key = point.key.as_str();
-    let line = format!(in alloc; "{reached} of {hits} {kind} {key}\n")?;
-    text.push_str(line.as_str())
-}
-
-/// Adds the line of a point that isn't measured.
-fn push_unmeasured(alloc: Global, text: &mut Text, point: &Point) -> Result<(), NoMemory>
-    ensures { OnOk result (text.new ≡ text.old ++ spec.unmeasured_line (point_view point.now)) }
-{
-    let kind = point.kind.name();
-    let key = point.key.as_str();
-    let line = format!(in alloc; "unmeasured {kind} {key}\n")?;
-    text.push_str(line.as_str())
-}
-
+/// Adds the line of a point with its numbers, where it is measured.
 fn push_point(
     alloc: Global,
     text: &mut Text,
@@ -70,11 +44,14 @@ fn push_point(
     ensures { OnOk result
         (text.new ≡ text.old ++ spec.point_line reached hits (point_view point.now)) }
 {
+    let kind = point.kind.name();
+    let key = point.key.as_str();
     if is_measured(point) {
-        push_measured(alloc, text, reached, hits, point)
-    } else {
-        push_unmeasured(alloc, text, point)
+        let line = format!(in alloc; "{reached} of {hits} {kind} {key}\n")?;
+        return text.push_str(line.as_str());
     }
+    let line = format!(in alloc; "unmeasured {kind} {key}\n")?;
+    text.push_str(line.as_str())
 }
 
 /// Adds the lines of points with their numbers.
@@ -112,26 +89,6 @@ fn push_label_sum(
     text.push_str(line.as_str())
 }
 
-fn push_selected(
-    alloc: Global,
-    text: &mut Text,
-    reached: &[u64],
-    hits: &[u64],
-    label: &Label,
-) -> Result<(), NoMemory>
-    requires selected { IsTrue label.now.selected }
-    requires reached { length reached.now ≡ length label.now.points }
-    requires hits { length hits.now ≡ length label.now.points }
-    ensures { OnOk result (text.new
-        ≡ text.old ++ spec.label_text reached.now hits.now (label_view label.now)) }
-{
-    let points = label.points.as_slice();
-    let name = label.name.as_str();
-    push_label_sum(alloc, text, name, hit_count(reached), measured(points))?;
-    push_points(alloc, text, reached, hits, points)?;
-    push_skipped(alloc, text, label.skipped.as_slice())
-}
-
 /// Adds a label with its own numbers.
 fn push_label(
     alloc: Global,
@@ -145,11 +102,14 @@ fn push_label(
     ensures { OnOk result (text.new
         ≡ text.old ++ spec.label_text reached.now hits.now (label_view label.now)) }
 {
-    if label.selected {
-        push_selected(alloc, text, reached, hits, label)
-    } else {
-        push_unselected(alloc, text, label)
+    if !label.selected {
+        return push_unselected(alloc, text, label);
     }
+    let points = label.points.as_slice();
+    let name = label.name.as_str();
+    push_label_sum(alloc, text, name, hit_count(reached), measured(points))?;
+    push_points(alloc, text, reached, hits, points)?;
+    push_skipped(alloc, text, label.skipped.as_slice())
 }
 
 /// How many points of a label are measured, where it is selected.
@@ -164,19 +124,19 @@ fn label_measured(label: &Label) -> usize
     }
 }
 
-/// Adds the labels, each with its own numbers, and gives how many of their points are measured.
+/// Adds the labels, each with its own numbers, and the sum of all.
 fn push_labels(
     alloc: Global,
     text: &mut Text,
     reached: &[u64],
     hits: &[u64],
     labels: &[Label],
-) -> Result<usize, NoMemory>
+) -> Result<(), NoMemory>
     requires reached { length reached.now ≡ length (aims_in labels.now) }
     requires hits { length hits.now ≡ length (aims_in labels.now) }
-    ensures text { OnOk result (text.new
-        ≡ text.old ++ spec.labels_text reached.now hits.now (map label_view labels.now)) }
-    ensures points { IfOk result (λ n. n ≡ spec.all_measured (map label_view labels.now)) }
+    ensures { OnOk result (text.new ≡ text.old
+        ++ (spec.labels_text reached.now hits.now (map label_view labels.now)
+        ++ spec.total_line reached.now (spec.all_measured (map label_view labels.now)))) }
 {
     let mut rest = reached;
     let mut other = hits;
@@ -190,13 +150,7 @@ fn push_labels(
         rest = later;
         other = later_hits;
     }
-    Ok(points)
-}
-
-/// Adds the line of all labels together.
-fn push_total(alloc: Global, text: &mut Text, hit: usize, points: usize) -> Result<(), NoMemory>
-    ensures { OnOk result (text.new ≡ text.old ++ (codes "total " ++ spec.sum_text hit points)) }
-{
+    let hit = hit_count(reached);
     let total = format!(in alloc; "total reached {hit} of {points}\n")?;
     text.push_str(total.as_str())
 }
@@ -215,8 +169,8 @@ pub(crate) fn report(
         ≡ spec.report_of (map label_view labels.now) reached.now hits.now instructions) }
 {
     let mut text = Text::from(format!(in alloc; "instructions {instructions}\n")?);
-    let points = push_labels(alloc, &mut text, reached, hits, labels)?;
-    push_total(alloc, &mut text, hit_count(reached), points)?;
+    let pushed = push_labels(alloc, &mut text, reached, hits, labels);
+    let ((), text) = beside(pushed, text)?;
     Ok(text)
 }
 

@@ -25,17 +25,6 @@ entries-depth (entry k d es) = ap (max (depth d)) (entries-depth es)
 pub depth-members : (d : Data) → is_scalar d ≡ false → depth d ≡ suc (members_depth (members_of d))
 depth-members d h = search (rules, items-depth, entries-depth)
 
-member-depth : (ds : List Data) (i : ℕ) (m : Data) → slice_get ds i ≡ Some m
-    → depth m ≤ members_depth ds
-member-depth [] zero m h = cc
-member-depth [] (suc i) m h = cc
-member-depth (d ∷ ds) zero m h = let same : d ≡ m = cc in omega (arith, ap depth same)
-member-depth (d ∷ ds) (suc i) m h = omega (arith, member-depth ds i m h)
-
-pub member-shallower : (d : Data) (i : ℕ) (m : Data) → is_scalar d ≡ false
-    → slice_get (members_of d) i ≡ Some m → depth m < depth d
-member-shallower d i m s h = omega (arith, depth-members d s, member-depth (members_of d) i m h)
-
 pub take-get : (ds : List Data) (i : ℕ) (m : Data) → slice_get ds i ≡ Some m
     → members_depth (take (suc i) ds) ≡ max (members_depth (take i ds)) (depth m)
 take-get [] zero m h = cc

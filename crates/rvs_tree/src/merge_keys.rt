@@ -54,22 +54,6 @@ fn with_maps_keys(
     Ok(set)
 }
 
-/// These keys and those that a whole tree merges.
-fn with_tree_keys(
-    alloc: Global,
-    set: BTreeSet<String>,
-    tree: &Tree,
-) -> Result<BTreeSet<String>, AllocError>
-    ensures { IfOk result (λ s. (k : List ℕ) → contains_text s k
-        ≡ (contains_text set k || has_key k (keys_of (merged_pairs (view tree.now))))) }
-{
-    if tree.is_list() {
-        with_maps_keys(alloc, set, tree.items())
-    } else {
-        with_map_keys(alloc, set, tree)
-    }
-}
-
 /// The first keys and the others, which are let go.
 fn with_all(into: BTreeSet<String>, from: BTreeSet<String>) -> Result<BTreeSet<String>, AllocError>
     ensures { IfOk result (λ s. (k : List ℕ) → contains_text s k ≡ true
@@ -114,8 +98,12 @@ fn with_value_keys(
             joined(set, brought)
         }
         None => {
-            let tree = tree_of(alloc, value)?;
-            with_tree_keys(alloc, set, &tree)
+            let (tree, set) = beside(tree_of(alloc, value), set)?;
+            if tree.is_list() {
+                with_maps_keys(alloc, set, tree.items())
+            } else {
+                with_map_keys(alloc, set, &tree)
+            }
         }
     }
 }

@@ -1,7 +1,7 @@
 // Drafts from what is written.
 ghost use Rattle.std.specs.Prelude.{◌≡◌, map, IfOk};
 ghost use Rattle.rvs_tree.specs.Value as spec;
-ghost use Rattle.rvs_tree.specs.DraftView.{part_view, own_entry, merging_entry, draft_view};
+ghost use Rattle.rvs_tree.specs.DraftView.{part_view, merging_entry, draft_view};
 ghost use Rattle.rvs_tree.specs.PartsView.{parts_view};
 ghost use Rattle.rvs_tree.specs.Bare.{bare};
 ghost use Rattle.rvs_tree.specs.HeldView.{held_view};
@@ -10,6 +10,7 @@ ghost use Rattle.rvs_tree.specs.ValueView.{value_view, values_view, written_view
 use crate::counted::Value;
 use crate::draft::{Draft, Part};
 use crate::held::Held;
+use crate::letting::beside;
 use crate::whole::tree_of;
 use crate::written::Written;
 use std::alloc::{AllocError, Global};
@@ -25,24 +26,16 @@ fn merged_part(value: &Value) -> Result<Part, AllocError>
     }
 }
 
-/// An entry with a key of its own.
-fn own_part(alloc: Global, key: &str, value: &Value) -> Result<Part, AllocError>
-    ensures { IfOk result (λ p. part_view p ≡ own_entry key.now (value_view value.now).tree) }
-{
-    let tree = tree_of(alloc, value)?;
-    let key = String::from_str(alloc, key)?;
-    Ok(Part::Pair(key, tree))
-}
-
 /// An entry.
 fn entry_part(alloc: Global, written: &Written) -> Result<Part, AllocError>
     ensures { IfOk result (λ p. part_view p ≡ bare (written_view written.now)) }
 {
     if written.merges {
-        merged_part(&written.value)
-    } else {
-        own_part(alloc, written.key.as_str(), &written.value)
+        return merged_part(&written.value);
     }
+    let key = String::from_str(alloc, written.key.as_str())?;
+    let (tree, key) = beside(tree_of(alloc, &written.value), key)?;
+    Ok(Part::Pair(key, tree))
 }
 
 /// The draft of a map of these entries, which begins on this line.

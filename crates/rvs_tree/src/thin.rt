@@ -3,12 +3,10 @@ ghost use Rattle.std.specs.Prelude.{◌≡◌, ◌≤◌, IfOk, if◌then◌else
 ghost use Rattle.rvs_tree.specs.Data.{sequence, no_items, mapping, no_entries, scalar};
 ghost use Rattle.rvs_tree.specs.Standin.{thin, standin};
 ghost use Rattle.rvs_tree.specs.TreeView.{view};
-ghost use Rattle.rvs_tree.specs.DraftView.{draft_view};
 ghost use Rattle.rvs_tree.specs.Value as spec;
 ghost use Rattle.rvs_tree.specs.ValueView.{value_view, values_view, entries_view};
 
 use crate::counted::Value;
-use crate::draft::Draft;
 use crate::entry_list::EntryList;
 use crate::held::Held;
 use crate::members::DEEP;
@@ -50,25 +48,16 @@ fn thin_whole(alloc: Global, tree: &Rc<Tree>, mergeable: bool) -> Result<Rc<Tree
     thin_list(alloc, mergeable, tree.line())
 }
 
-/// The tree that stands for a draft, of which it is known whether it can be merged.
-fn thin_draft(alloc: Global, draft: &Draft, mergeable: bool) -> Result<Rc<Tree>, AllocError>
-    requires { mergeable ≡ spec.is_mergeable (draft_view draft.now) }
-    ensures { IfOk result (λ t. view t.value ≡ thin (draft_view draft.now)) }
-{
-    if draft.is_list() {
-        thin_list(alloc, mergeable, draft.line())
-    } else {
-        thin_map(alloc, draft.line())
-    }
-}
-
 /// The tree that stands for that of a value.
 fn thin_tree(alloc: Global, value: &Value) -> Result<Rc<Tree>, AllocError>
     ensures { IfOk result (λ t. view t.value ≡ thin (value_view value.now).tree) }
 {
     match &value.held {
         Held::Whole(tree) => thin_whole(alloc, tree, value.mergeable),
-        Held::Merging(draft) => thin_draft(alloc, draft, value.mergeable),
+        Held::Merging(draft) if draft.is_list() => {
+            thin_list(alloc, value.mergeable, draft.line())
+        }
+        Held::Merging(draft) => thin_map(alloc, draft.line()),
     }
 }
 

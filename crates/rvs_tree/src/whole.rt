@@ -112,14 +112,6 @@ pub(crate) fn whole_value(alloc: Global, value: Value) -> Result<Value, AllocErr
     if matches!(value.held, Held::Whole(_)) {
         return Ok(value);
     }
-    worked_out(alloc, value)
-}
-
-/// The same value as a whole, with its depth.
-fn worked_out(alloc: Global, value: Value) -> Result<Value, AllocError>
-    ensures value { IfOk result (λ v. value_view v ≡ value_view value) }
-    ensures depth { IfOk result (λ v. v.depth ≤ value.depth) }
-{
     let nodes = value.nodes;
     let mergeable = value.mergeable;
     let tree = into_tree(alloc, value)?;

@@ -77,7 +77,7 @@ abbrev pub of-values : List Pair → Values
 of-values ps name = values_of name ps
 
 -- what options ask for, by what their values do
-pub asked : (names : List (List ℕ)) (f : Values → Option Command) (words : List (List ℕ))
+asked : (names : List (List ℕ)) (f : Values → Option Command) (words : List (List ℕ))
     (ps : List Pair) (command : Command)
     → options_in (is_among names) words ≡ Some ps → f (of-values ps) ≡ Some command
     → with_options names f words ≡ Some command

@@ -88,7 +88,17 @@ fn read_reference(alloc: Global, words: &[String]) -> Result<Command, Unread>
         words,
         &["--isa", "--test", "--signature", "--log", "--steps"],
     )?;
-    let pairs = options.as_slice();
+    reference_asked(alloc, options.as_slice())
+}
+
+/// Reads the options of `reference`.
+///
+/// # Errors
+///
+/// [`Unread`].
+fn reference_asked(alloc: Global, pairs: &[Pair]) -> Result<Command, Unread>
+    ensures { Answers result (reference_of (λ name. values_of name pairs.now)) }
+{
     let steps = read_steps(alloc, pairs)?;
     let log = optional_value(alloc, pairs, "--log")?;
     let signature = only_value(alloc, pairs, "--signature")?;

@@ -8,7 +8,7 @@ ghost use Rattle.rvs_words.specs.Commands.{some_of, up_to};
 ghost use Rattle.rvs_words.specs.Reading.{Answers};
 
 use crate::unread::Unread;
-use rvs_base::{Items, NoMemory, Text};
+use rvs_base::{Items, NoMemory, Text, beside};
 use std::alloc::Global;
 
 /// An option and its value.
@@ -50,14 +50,6 @@ fn pair_in(word: &str) -> Option<(&str, &str)>
     }
 }
 
-fn owned_pair(alloc: Global, name: &str, value: &str) -> Result<Pair, NoMemory>
-    ensures { IfOk result (λ pair. pair ≡ record { name = name.now; value = value.now }) }
-{
-    let name = owned(alloc, name)?;
-    let value = owned(alloc, value)?;
-    Ok(Pair { name, value })
-}
-
 /// An option with its value, and the words behind it.
 ///
 /// # Errors
@@ -73,15 +65,16 @@ fn first_pair<'w>(
         (λ e. e ≡ Unread.NoCommand → pairs_of (word.now ∷ texts after.now) ≡ None) }
     ensures fewer { IfOk result (λ x. length x.1.now ≤ length after.now) }
 {
-    if let Some((name, value)) = pair_in(word) {
-        return Ok((owned_pair(alloc, name, value)?, after));
-    }
-    match after.split_first() {
-        Some((value, more)) if is_positional(value.as_str()) => {
-            Ok((owned_pair(alloc, word, value.as_str())?, more))
+    let (name, value, rest) = match pair_in(word) {
+        Some((name, value)) => (name, value, after),
+        None => match after.split_first() {
+            Some((value, more)) if is_positional(value.as_str()) => (word, value.as_str(), more),
+            _ => return Err(Unread::NoCommand),
         },
-        _ => Err(Unread::NoCommand),
-    }
+    };
+    let name = owned(alloc, name)?;
+    let (value, name) = beside(owned(alloc, value), name)?;
+    Ok((Pair { name, value }, rest))
 }
 
 /// Reads words that are options, each with its value behind `=` or in the next word.

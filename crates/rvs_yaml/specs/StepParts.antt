@@ -1,7 +1,7 @@
 -- Parts of a step of the stack of open blocks.
-use Rattle.std.specs.Prelude.{ℕ, Bool, not, ◌||◌, if◌then◌else◌, List, [], ◌∷◌, ◌++◌, None, Ok, Err}
+use Rattle.std.specs.Prelude.{ℕ, Bool, if◌then◌else◌, List, [], ◌∷◌, ◌++◌, None, Ok, Err}
 use Rattle.rvs_yaml.specs.Checks.{Checked, ◌>>=◌, ◌>>◌, check}
-use Rattle.rvs_tree.specs.Value.{Value, Written, has_key, scalar_value, list_value, map_value}
+use Rattle.rvs_tree.specs.Value.{Value, Written, scalar_value, list_value, map_value}
 use Rattle.rvs_yaml_text.specs.Word.{Key, Content, nothing, alias, faulty, Shape, dash, key, leaf}
 use Rattle.rvs_yaml_text.specs.Word.{refused, Word, Head, no_opener, is_below, opens_block}
 use Rattle.rvs_yaml.specs.Anchors.{Anchors, lookup, known_alias}
@@ -9,8 +9,7 @@ use Rattle.rvs_yaml.specs.Entry.{written}
 use Rattle.rvs_yaml.specs.Block.{content_value, key_at, check_merge}
 use Rattle.rvs_yaml.specs.Stack.{Done, done_items, done_entries, alone, Open, known_of}
 use Rattle.rvs_yaml.specs.Stack.{advanced_as}
-use Rattle.rvs_yaml_text.specs.declared.kind.YamlKind.TheVariants.{DuplicateKey, BadScalar}
-use Rattle.rvs_yaml_text.specs.declared.kind.YamlKind.TheVariants.{Unsupported}
+use Rattle.rvs_yaml_text.specs.declared.kind.YamlKind.TheVariants.{BadScalar, Unsupported}
 
 -- what is behind a word
 abbrev pub own_content : Shape → Content
@@ -19,18 +18,12 @@ own_content (key k a content) = content
 own_content (leaf content) = content
 own_content (refused kind) = faulty kind
 
-abbrev pub check_new : List (List ℕ) → Key → Checked (Unit {0})
-check_new seen k = check (k.merges || not (has_key k.name seen)) DuplicateKey
-
 abbrev pub keyed_content : ℕ → List (List ℕ) → Word → Checked (Key × Content)
 keyed_content column seen w =
     key_at column seen w.column w.shape >>= λ k. Ok (k, own_content w.shape)
 
 abbrev pub advanced_content : Done → ℕ → Value → Word → Checked (Done × Content)
 advanced_content d column v w = advanced_as d column v w >>= λ e. Ok (e, own_content w.shape)
-
-abbrev pub next_item : List Value → ℕ → Value → Word → Checked (Done × Content)
-next_item vs column v w = advanced_content (done_items vs) column v w
 
 abbrev pub next_entry : List Written → Key → ℕ → Value → Word → Checked (Done × Content)
 next_entry ws k column v w = advanced_content (done_entries ws k) column v w

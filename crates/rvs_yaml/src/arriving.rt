@@ -12,7 +12,7 @@ use crate::fill::fill;
 use crate::open::{Done, Open};
 use crate::open_blocks::OpenBlocks;
 use crate::taking::push;
-use rvs_base::{Fault, beside, release};
+use rvs_base::{Fault, release};
 use rvs_tree::{Tree, tree_of};
 use rvs_yaml_text::{Bracket, YamlKind};
 use std::alloc::{AllocError, Global};
@@ -178,12 +178,18 @@ pub(crate) fn filled<'a>(
         latest,
         mut arrivals,
     } = anchors;
-    let noted = arrive(alloc, &mut arrivals, blocks.as_slice());
-    let anchors = AnchorList {
-        anchors,
-        latest,
-        arrivals,
-    };
-    let ((), stack) = beside(noted, OpenBlocks { blocks, anchors })?;
-    Ok(stack)
+    match arrive(alloc, &mut arrivals, blocks.as_slice()) {
+        Ok(()) => {
+            let anchors = AnchorList {
+                anchors,
+                latest,
+                arrivals,
+            };
+            Ok(OpenBlocks { blocks, anchors })
+        }
+        Err(_) => {
+            release((blocks, anchors, latest, arrivals));
+            Err(Fault::NoMemory)
+        }
+    }
 }

@@ -10,7 +10,7 @@ ghost use Rattle.rvs_yaml.specs.StackView.{own_view, stack_view};
 
 use crate::open::{Block, Open};
 use crate::stack::{closed_value, own_value};
-use rvs_base::{Fault, release};
+use rvs_base::{Fault, beside, release};
 use rvs_tree::{Value, scalar_value};
 use rvs_yaml_text::YamlKind;
 use std::alloc::Global;
@@ -44,8 +44,15 @@ pub(crate) fn closed_stack(
         return Ok(scalar_value(alloc, String::new(alloc), 1)?);
     };
     let Open { block, head, own } = top;
-    let Block { line, done, .. } = block;
-    let own = own_value(alloc, &head, own)?;
-    let value = closed_value(alloc, line, done, own)?;
-    closed_blocks(alloc, blocks, value)
+    match own_value(alloc, &head, own) {
+        Ok(own) => {
+            let Block { line, done, .. } = block;
+            let (value, blocks) = beside(closed_value(alloc, line, done, own), blocks)?;
+            closed_blocks(alloc, blocks, value)
+        }
+        Err(_) => {
+            release((block, blocks));
+            Err(Fault::NoMemory)
+        }
+    }
 }

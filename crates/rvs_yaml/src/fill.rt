@@ -22,7 +22,7 @@ use crate::known::Known;
 use crate::open::Open;
 use crate::open_blocks::OpenBlocks;
 use crate::stack::put;
-use rvs_base::{Fault, beside, release};
+use rvs_base::{Fault, release};
 use rvs_tree::{DEEP, Value};
 use rvs_yaml_text::{Bracket, Content, Shape, YamlKind};
 use std::alloc::Global;
@@ -105,7 +105,10 @@ pub(crate) fn fill<'a>(
     ensures { Passes open_blocks result
         (spec.filled (Some (bracket_view bracket, tokens_of text.now)) (open_blocks stack.entry)) }
 {
-    let ((), stack) = beside(check_paid(alloc, &stack, bracket, text), stack)?;
+    if let Err(fault) = check_paid(alloc, &stack, bracket, text) {
+        release(stack);
+        return Err(fault);
+    }
     let OpenBlocks {
         mut blocks,
         anchors,

@@ -19,7 +19,7 @@ use crate::flow_refusals::{colon_scalar_fault, cut_key_fault, is_new, refused, s
 use crate::known::Known;
 use crate::reading::{FlowState, Level, Pending, Reading};
 use crate::taking::{boxed, pushed};
-use rvs_base::{Fault, beside, release};
+use rvs_base::{Fault, release};
 use rvs_tree::{
     EntryList, Value, ValueList, Written, list_value, map_value, scalar_value, thin_list_value,
     thin_map_value,
@@ -150,9 +150,14 @@ fn with_scalar(
     ensures refused { FailsWith result
         (spec.with_value (place_view place) (value_spec.scalar_value (key_view key).name line)) }
 {
-    let ((), (place, key)) = beside(may_take(&place), (place, key))?;
-    let (value, place) = beside(scalar_value(alloc, key.name, line), place)?;
-    with_value(alloc, place, value)
+    if let Err(kind) = may_take(&place) {
+        release(key);
+        return refused(Fault::Refused(kind), place);
+    }
+    match scalar_value(alloc, key.name, line) {
+        Ok(value) => with_value(alloc, place, value),
+        Err(_) => refused(Fault::NoMemory, place),
+    }
 }
 
 /// The place behind a token that is no bracket.
@@ -204,28 +209,31 @@ fn closed_by(
     ensures given { Gives value_view result (steps_spec.closed_by poor line (place_view place)) }
     ensures refused { FailsWith result (steps_spec.closed_by poor line (place_view place)) }
 {
-    match place {
+    let made = match place {
         FlowState::Member(list) | FlowState::BehindMember(list) => {
-            if !poor {
-                return Ok(list_value(alloc, line, list)?);
+            if poor {
+                let thin = thin_list_value(alloc, line, &list);
+                release(list);
+                thin
+            } else {
+                list_value(alloc, line, list)
             }
-            let thin = thin_list_value(alloc, line, &list);
-            release(list);
-            Ok(thin?)
         }
         FlowState::KeyPlace(list) | FlowState::BehindEntry(list) => {
-            if !poor {
-                return Ok(map_value(alloc, line, list)?);
+            if poor {
+                let thin = thin_map_value(alloc, line, &list);
+                release(list);
+                thin
+            } else {
+                map_value(alloc, line, list)
             }
-            let thin = thin_map_value(alloc, line, &list);
-            release(list);
-            Ok(thin?)
         }
         FlowState::EntryValue(pending) => {
             release(pending);
-            Err(Fault::Refused(YamlKind::BadFlow))
+            return Err(Fault::Refused(YamlKind::BadFlow));
         }
-    }
+    };
+    Ok(made?)
 }
 
 /// Whether the last of these entries can be merged, where it is to be.
@@ -291,8 +299,7 @@ fn opened(
         (place_view level.place) (levels_view outer.items) (bracket_view bracket)) }
 {
     if let Err(kind) = may_open(&level.place) {
-        release(level);
-        release(outer);
+        release((level, outer));
         return Err(Fault::Refused(kind));
     }
     let outer = pushed(outer, level)?;
@@ -340,8 +347,7 @@ fn closed(
             into(alloc, value, good, outer)
         }
         Err(kind) => {
-            release(level);
-            release(outer);
+            release((level, outer));
             Err(Fault::Refused(kind))
         },
     }

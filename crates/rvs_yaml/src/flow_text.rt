@@ -15,7 +15,7 @@ ghost use Rattle.rvs_yaml.specs.FlowView.{flowing_view};
 use crate::flow::{first_place, flow_end, flow_step};
 use crate::known::Known;
 use crate::reading::{Flowing, Level, Reading};
-use rvs_base::{Fault, beside};
+use rvs_base::{Fault, release};
 use rvs_tree::Value;
 use rvs_yaml_text::{Bracket, YamlKind, behind_first, closes, next_token, starts_with};
 use std::alloc::Global;
@@ -52,15 +52,22 @@ fn next_flowing<'a>(
             rest: behind_first(rest),
         });
     }
-    let ((token, behind), reading) = beside(next_token(alloc, closed, rest), reading)?;
-    let closed = closes(&token);
-    let reading = flow_step(alloc, known, line, reading, token)?;
-    Ok(Flowing {
-        reading,
-        closed,
-        spaced: false,
-        rest: behind,
-    })
+    match next_token(alloc, closed, rest) {
+        Ok((token, behind)) => {
+            let closed = closes(&token);
+            let reading = flow_step(alloc, known, line, reading, token)?;
+            Ok(Flowing {
+                reading,
+                closed,
+                spaced: false,
+                rest: behind,
+            })
+        }
+        Err(_) => {
+            release(reading);
+            Err(Fault::NoMemory)
+        }
+    }
 }
 
 /// The value of a flow collection from behind its first bracket, or what stands for it.

@@ -25,7 +25,7 @@ use crate::reading::Pending;
 use crate::sketch::Sketch;
 use crate::stack::closed_value;
 use crate::taking::boxed;
-use rvs_base::{Fault, beside};
+use rvs_base::{Fault, beside, release};
 use rvs_tree::{
     DEEP, EntryList, Value, ValueList, Written, depth_up_to, into_tree, plus, scalar_value,
     shared_value, text_nodes,
@@ -279,8 +279,13 @@ fn front_value(alloc: Global, blocks: &[Open<'_>]) -> Result<Value, Fault<YamlKi
     while i > 0 {
         i -= 1;
         let block = &blocks[i].block;
-        let (done, member) = beside(copied_done(alloc, &block.done), value)?;
-        value = closed_value(alloc, block.line, done, member)?;
+        match copied_done(alloc, &block.done) {
+            Ok(done) => value = closed_value(alloc, block.line, done, value)?,
+            Err(_) => {
+                release(value);
+                return Err(Fault::NoMemory);
+            }
+        }
     }
     Ok(value)
 }

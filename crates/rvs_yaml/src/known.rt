@@ -44,10 +44,11 @@ impl Known<'_, '_> {
         let Some(value) = find_anchor(name, self.anchors) else {
             return Err(Fault::Refused(YamlKind::UnknownAlias));
         };
-        if self.poor {
-            Ok(thin_value(alloc, value)?)
+        let made = if self.poor {
+            thin_value(alloc, value)
         } else {
-            Ok(shared_value(value)?)
-        }
+            shared_value(value)
+        };
+        Ok(made?)
     }
 }

@@ -13,7 +13,7 @@ use crate::arriving::filled;
 use crate::fill::hollow_shape;
 use crate::open_blocks::OpenBlocks;
 use crate::stack::step;
-use rvs_base::{Fault, beside};
+use rvs_base::{Fault, release};
 use rvs_text::without_spaces;
 use rvs_yaml_text::{
     Shape, Word, YamlKind, anchored_item, behind_first, ends_indicator, is_blank, item_name,
@@ -98,7 +98,13 @@ fn read_last<'a>(
     ensures { Passes open_blocks result (stack_spec.steps
         (open_blocks stack.entry) (parts.rest_words line item column text.now)) }
 {
-    let (last, stack) = beside(last_word(alloc, line, column, item, text), stack)?;
+    let last = match last_word(alloc, line, column, item, text) {
+        Ok(last) => last,
+        Err(_) => {
+            release(stack);
+            return Err(Fault::NoMemory);
+        }
+    };
     let Some(word) = last else {
         return Ok(stack);
     };

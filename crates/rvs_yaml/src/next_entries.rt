@@ -41,17 +41,12 @@ pub(crate) fn next_entry<'a>(
                 Ok((done, content))
             }
             Err(kind) => {
-                release(entries);
-                release(key);
-                release(value);
+                release((entries, key, value));
                 Err(Fault::Refused(kind))
             }
         },
         Err(kind) => {
-            release(entries);
-            release(key);
-            release(value);
-            release(word);
+            release((entries, key, value, word));
             Err(Fault::Refused(kind))
         }
     }

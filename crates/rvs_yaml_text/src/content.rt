@@ -111,20 +111,6 @@ fn anchor_split(text: &str) -> Option<(&str, &str)>
     }
 }
 
-/// The anchor and the content from behind a `&`.
-fn anchored<'a>(
-    alloc: Global,
-    split: Option<(&'a str, &'a str)>,
-) -> Result<(Option<&'a str>, Content<'a>), AllocError>
-    ensures { IfOk result (λ p. part_view p ≡ spec.anchored (split_now split.entry)) }
-{
-    let Some((name, behind)) = split else {
-        return Ok((None, Content::Faulty(YamlKind::BadScalar)));
-    };
-    let content = content_or_comment(alloc, without_spaces(behind))?;
-    Ok((Some(name), content))
-}
-
 /// The anchor and the content behind a key.
 fn inline_part<'a>(
     alloc: Global,
@@ -133,7 +119,11 @@ fn inline_part<'a>(
     ensures { IfOk result (λ p. part_view p ≡ spec.inline_part text.now) }
 {
     if starts_with(b'&', text.as_bytes()) {
-        return anchored(alloc, anchor_split(behind_first(text)));
+        let Some((name, behind)) = anchor_split(behind_first(text)) else {
+            return Ok((None, Content::Faulty(YamlKind::BadScalar)));
+        };
+        let content = content_or_comment(alloc, without_spaces(behind))?;
+        return Ok((Some(name), content));
     }
     let content = content_or_comment(alloc, text)?;
     Ok((None, content))
@@ -230,22 +220,15 @@ pub fn anchored_item<'a>(alloc: Global, text: &'a str) -> Result<Option<Shape<'a
     Ok(Some(Shape::Leaf(content)))
 }
 
-/// Whether a colon stands behind a quoted scalar, behind whose quotes this stands.
-fn colon_behind(split: Option<(String, &str)>) -> bool
-    ensures { result ≡ spec.colon_behind (owned_split split.entry) }
-{
-    match split {
-        Some((_, behind)) => starts_with(b':', without_spaces(behind).as_bytes()),
-        None => false,
-    }
-}
-
 /// Whether the text is a scalar with a colon behind it.
 fn begins_entry(alloc: Global, text: &str) -> Result<bool, AllocError>
     ensures { IfOk result (λ b. b ≡ spec.begins_entry text.now) }
 {
     if starts_quoted(text.as_bytes()) {
-        return Ok(colon_behind(quoted(alloc, text)?));
+        return match quoted(alloc, text)? {
+            Some((_, behind)) => Ok(starts_with(b':', without_spaces(behind).as_bytes())),
+            None => Ok(false),
+        };
     }
     if start_fault(text.as_bytes()).is_some() {
         return Ok(false);

@@ -6,7 +6,7 @@ use Rattle.rvs_plan.specs.World.{world}
 use Rattle.rvs_plan.specs.Plan.{gives}
 use Rattle.rvs_plan.specs.Meets.{Meets}
 use Rattle.rvs_plan.proofs.Sequence.{Meets-then, Meets-stop, Meets-gives}
-use Rattle.rvs_inputs.specs.GroupFiles.{joins_all}
+use Rattle.rvs_inputs.specs.GroupFiles.{joins, joins_all}
 use Rattle.rvs_inputs.proofs.group_files.read_joined.Goals as goal
 
 pub returns-in_err-join_file : goal.returns-in_err-join_file
@@ -21,7 +21,8 @@ returns-in_err-join_file g c = λ out.
     drop_more c.args.names.now i _ c.loop-name-test.true
     ∙ ap (λ (x : List ℕ). x ∷ rest) (sym c.name-item.is ∙ sym c.as_str.ensures) in
     let stopped =
-    Meets-stop (λ text. joins_all (Some text) rest) (c.in_err-join_file.ensures out) in
+    Meets-stop {p = joins front c.as_str.result.now} (λ text. joins_all (Some text) rest)
+    (c.in_err-join_file.ensures out) in
     rw (p.1, p.2) (c.loop-name.invariant out new _ (subst (λ (names : List (List ℕ)). Meets
     (joins_all front names) old new (Err c.in_err-join_file.field-0.0)) (sym here) stopped))
 
@@ -35,7 +36,8 @@ loop-name-preserved g c = λ out new result later.
     drop_more c.args.names.now i _ c.loop-name-test.true
     ∙ ap (λ (x : List ℕ). x ∷ rest) (sym c.name-item.is ∙ sym c.as_str.ensures) in
     let joined =
-    Meets-then (λ text. joins_all (Some text) rest) (c.in_ok-join_file.ensures out) later in
+    Meets-then {p = joins front c.as_str.result.now} (λ text. joins_all (Some text) rest)
+    (c.in_ok-join_file.ensures out) later in
     c.loop-name.invariant out new result (subst
     (λ (names : List (List ℕ)). Meets (joins_all front names) old new result) (sym here) joined)
 

@@ -1,4 +1,4 @@
-use Rattle.std.proofs.Common.{◌≡◌, ◌∷◌, ◌++◌, [], ◌∙◌, sym, ap, refl, arith, length, drop, take}
+use Rattle.std.proofs.Common.{◌∷◌, ◌++◌, [], ◌∙◌, sym, ap, refl, arith, length, drop, take}
 use Rattle.std.proofs.Common.{length-append}
 use Rattle.std.specs.Prelude.{if◌then◌else◌}
 use Rattle.std.proofs.lemmas.List.{take-append-le, drop-append-le}
@@ -9,8 +9,9 @@ use Rattle.rvs_yaml.specs.StackView.{anchors_view}
 use Rattle.rvs_yaml_text.specs.WordView.{name_view}
 use Rattle.rvs_yaml.specs.declared.anchor_list.AnchorList.{AnchorList}
 use Rattle.rvs_yaml.specs.declared.open.Anchor.{Anchor}
+use Rattle.rvs_yaml.specs.Places.{last_place}
+use Rattle.rvs_yaml.proofs.Placing.{names_of, last_place-push}
 use Rattle.rvs_yaml.proofs.Segments.{anchors-append}
-use Rattle.rvs_yaml.proofs.Telling.{if_ok}
 use Rattle.rvs_yaml.proofs.anchoring.named.Goals as goal
 
 pub returns-then-is_behind : goal.returns-then-is_behind
@@ -27,16 +28,26 @@ returns-then-is_behind c =
       more = omega arith;
     }
 
-pub returns : goal.returns
-returns c =
+pub invariant_of-result : goal.invariant_of-result
+invariant_of-result c =
+    let list = c.in_ok-value.list in
+    record {
+      known = λ k. c.in-Ok.ensures.places k
+          ∙ last_place-push k list.anchors.items _ _ _ refl (list.known k)
+          ∙ sym (ap (λ xs. last_place k (names_of xs)) c.in-Ok.ensures.items);
+    }
+
+pub returns-in-Ok : goal.returns-in-Ok
+returns-in-Ok c =
     let all = c.args.list.anchors.items in
     let n = c.args.before in
     let name = c.in-Some.name.now in
     let v = value_view c.args.value.now in
     let xs = anchors_view (drop n all) in
-    let u = c.in_ok-value.value in
-    let a : Anchor = record { name = c.in-Some.name; value = u } in
-    if_ok _ _ _ (λ (l : AnchorList) (h : l.anchors.items ≡ all ++ a ∷ []). record {
+    let a : Anchor = record { name = c.in-Some.name; value = c.in_ok-value.value } in
+    let h = c.in-Ok.ensures.items
+    ∙ ap (λ (l : AnchorList). l.anchors.items ++ a ∷ []) c.in_ok-value.ensures.both.1 in
+    record {
       inner = ap (λ ys. anchors_view (drop n ys)) h
           ∙ ap anchors_view (drop-append-le n all (a ∷ []) c.requires)
           ∙ anchors-append (drop n all) (a ∷ [])
@@ -47,4 +58,4 @@ returns c =
           (sym c.is_behind.ensures ∙ c.if-is_behind.false));
       outer = ap (take n) h ∙ take-append-le n all (a ∷ []) c.requires;
       more = omega (arith, ap length h, length-append all (a ∷ []));
-    }) (rw c.in_ok-value.ensures.both.1 at c.with_anchor.ensures)
+    }

@@ -31,8 +31,8 @@ loop-i-init c =
           ∙ sym (ap front_value top);
     }
 
-pub returns-in_err-value-2 : goal.returns-in_err-value-2
-returns-in_err-value-2 c =
+pub returns-in_err-value-in-Ok : goal.returns-in_err-value-in-Ok
+returns-in_err-value-in-Ok c =
     let bs = c.args.blocks.now in
     let m = c.loop-i.i - 1 in
     let one : c.loop-i.i ≡ m + 1 = omega arith in
@@ -42,17 +42,14 @@ returns-in_err-value-2 c =
     let rest = stack_view (take m bs) in
     let e = sym (ap (ends v) (stack-more bs m c.index-blocks-i.result here))
     ∙ sym (ap (λ n. ends v (stack_view (take n bs))) one) ∙ c.loop-i.invariant.same in
-    let same : closed_value (done_view c.in_ok-done.done) b.block.line
-    (value_view c.in_ok-done.member) ≡ closed_value (done_view b.block.done) b.block.line v =
-    ap (λ d. closed_value d b.block.line (value_view c.in_ok-done.member))
-    (rw c.in_ok-done.ensures.both.0 at c.copied_done.ensures)
-    ∙ ap (λ x. closed_value (done_view b.block.done) b.block.line (value_view x))
-    c.in_ok-done.ensures.both.1 in
-    let p = err_from_is_err_and c.from_residual-in_err-value-2.result
-    c.from_residual-in_err-value-2.ensures.1 in
-    rw (p.1, p.2) (fails_first _ (closed_value (done_view c.in_ok-done.done) b.block.line
-    (value_view c.in_ok-done.member)) (λ w. ends w rest) _
-    (ap (λ m. m >>= λ w. ends w rest) same ∙ e) c.in_err-value-2.ensures.given)
+    let same : closed_value (done_view c.in-Ok.done) b.block.line v
+    ≡ closed_value (done_view b.block.done) b.block.line v =
+    ap (λ d. closed_value d b.block.line v) c.in-Ok.ensures in
+    let p = err_from_is_err_and c.from_residual-in_err-value-in-Ok.result
+    c.from_residual-in_err-value-in-Ok.ensures.1 in
+    rw (p.1, p.2) (fails_first _ (closed_value (done_view c.in-Ok.done) b.block.line v)
+    (λ w. ends w rest) _
+    (ap (λ m. m >>= λ w. ends w rest) same ∙ e) c.in_err-value-in-Ok.ensures.given)
 
 pub loop-i-preserved : goal.loop-i-preserved
 loop-i-preserved c =
@@ -63,15 +60,12 @@ loop-i-preserved c =
     let b = get_or bs m c.index-blocks-i.result in
     let v = value_view c.loop-i.value in
     let rest = stack_view (take m bs) in
-    let same : closed_value (done_view c.in_ok-done.done) b.block.line
-    (value_view c.in_ok-done.member) ≡ closed_value (done_view b.block.done) b.block.line v =
-    ap (λ d. closed_value d b.block.line (value_view c.in_ok-done.member))
-    (rw c.in_ok-done.ensures.both.0 at c.copied_done.ensures)
-    ∙ ap (λ x. closed_value (done_view b.block.done) b.block.line (value_view x))
-    c.in_ok-done.ensures.both.1 in
+    let same : closed_value (done_view c.in-Ok.done) b.block.line v
+    ≡ closed_value (done_view b.block.done) b.block.line v =
+    ap (λ d. closed_value d b.block.line v) c.in-Ok.ensures in
     record {
       inside = omega (arith, c.loop-i.invariant.inside);
-      same = sym (ap (λ r. r >>= λ w. ends w rest) c.in_ok-value-2.ensures.given)
+      same = sym (ap (λ r. r >>= λ w. ends w rest) c.in_ok-value-in-Ok.ensures.given)
           ∙ ap (λ r. r >>= λ w. ends w rest) same
           ∙ sym (ap (ends v) (stack-more bs m c.index-blocks-i.result here))
           ∙ sym (ap (λ n. ends v (stack_view (take n bs))) one) ∙ c.loop-i.invariant.same;

@@ -1,10 +1,9 @@
-use Rattle.std.proofs.Common.{◌≡◌, ◌-◌, [], arith, ◌∙◌, sym, ap, subst, true, false, length, take}
+use Rattle.std.proofs.Common.{◌≡◌, ◌-◌, [], arith, ◌∙◌, sym, ap, subst, refl, true, false, length}
+use Rattle.std.proofs.Common.{take}
 use Rattle.std.specs.Prelude.{slice_get}
-use Rattle.std.proofs.lemmas.Result.{err_from_is_err_and}
 use Rattle.std.proofs.lemmas.List.{append-nil}
 use Rattle.rvs_tree.specs.ValueView.{value_view}
 use Rattle.rvs_yaml.specs.Block.{found}
-use Rattle.rvs_yaml.specs.Gives.{Gives}
 use Rattle.rvs_yaml.specs.Stack.{advanced, noted, settled}
 use Rattle.rvs_yaml.specs.StepParts.{bare, closed_value}
 use Rattle.rvs_yaml.specs.StackView.{block_at, open_at, anchored}
@@ -20,18 +19,17 @@ pub loop-blocks-preserved : goal.loop-blocks-preserved
 loop-blocks-preserved c =
     let l = c.loop-blocks in
     let w = word_view c.args.word in
-    let is = c.in_ok-closed.ensures.both in
     let k = closes-over (value_view l.value) l.block c.in-Some.outer l.blocks.items
-    c.pop.new.self.items l.anchors.anchors.items c.closed_named-closed.result c.in_ok-closed.closed
-    c.in_ok-closed.kept c.in_ok-closed.around w
+    c.pop.new.self.items l.anchors.anchors.items c.closed_named.result c.in-Ok.closed
+    c.in-Ok.kept c.in-Some.outer.block w
     (subst (λ xs. Closing (slice_get xs (length xs - 1)) w true) c.as_slice.ensures.value
     c.loop-blocks-test.ensures.inner)
-    c.in-Some.ensures.items l.invariant.rising is.0 is.1
-    c.closed_named-closed.ensures.given c.closed_named-closed.ensures.named in
+    c.in-Some.ensures.items l.invariant.rising c.in-Ok.is refl
+    c.closed_named.ensures.given c.closed_named.ensures.named in
     record { rising = k.0; same = k.1 ∙ l.invariant.same }
 
-pub returns-in_err-closed : goal.returns-in_err-closed
-returns-in_err-closed c =
+pub returns-in-Err : goal.returns-in-Err
+returns-in-Err c =
     let w = word_view c.args.word in
     let outer = c.in-Some.outer in
     let l = c.loop-blocks in
@@ -46,15 +44,12 @@ returns-in_err-closed c =
     let above = closes-top l.blocks.items rest outer w c.in-Some.ensures.items
     (subst (λ xs. Closing (slice_get xs (length xs - 1)) w true) c.as_slice.ensures.value
     c.loop-blocks-test.ensures.inner) in
-    let p = err_from_is_err_and c.from_residual.result c.from_residual.ensures.1 in
-    rw (p.1, p.2) (fails_first _ (closed_value b.done b.line v)
+    fails_first _ (closed_value b.done b.line v)
     (λ x. settled (noted name (found x b.anchors)) around below w) _
     (sym (settled-closing b v around below w above)
     ∙ sym (ap (λ s. settled (found v []) (bare b) s w)
     (ap (anchored (take n all)) c.in-Some.ensures.items ∙ anchored-push (take n all) rest outer))
-    ∙ l.invariant.same)
-    (subst (λ r. Gives (λ x. value_view x.0) r (closed_value b.done b.line v))
-    c.in_err-closed.ensures.none c.closed_named-closed.ensures.given))
+    ∙ l.invariant.same) c.in-Err.ensures.given
 
 pub returns : goal.returns
 returns c =
