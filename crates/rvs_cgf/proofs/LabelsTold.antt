@@ -1,12 +1,39 @@
--- Labels that are written out one after another.
-use Rattle.std.proofs.Common.{◌≡◌, ℕ, ◌+◌, List, [], drop, Some, Ok, Err, refl, sym, ap, ◌∙◌}
+-- Labels that are read, and written out, one after another.
+use Rattle.std.proofs.Common.{◌≡◌, ℕ, ◌+◌, List, [], drop, Some, Ok, Err, refl, sym, ap, ◌∙◌, false}
 use Rattle.std.specs.Prelude.{slice_get, IsTrue}
 use Rattle.rvs_insn.specs.Isa.{Isa}
 use Rattle.rvs_tree.specs.Data.{Data, own_pairs, keys_of, members_of, is_map}
 use Rattle.rvs_abstract.specs.declared.families.Families.{Families}
 use Rattle.rvs_cgf.specs.Groups.{Found, Refusal, Listed, label_step, nothing_listed, for_each}
-use Rattle.rvs_cgf.specs.Writing.{Told, told, told_of, nothing_told}
-use Rattle.rvs_cgf.proofs.Loops.{each-more, each-fails}
+use Rattle.rvs_cgf.specs.Groups.{at_label, groups_of, is_empty_scalar, ◌>>=◌}
+use Rattle.rvs_cgf.specs.Print.{normal_text}
+use Rattle.rvs_cgf.specs.Writing.{Told, told, told_of, nothing_told, normal_of}
+use Rattle.rvs_cgf.proofs.Loops.{each-more, each-fails, entries-are}
+
+-- the groups of a tree that is a map
+pub groups-are : (isa : Isa) (families : Families) (d : Data) → is_empty_scalar d ≡ false
+    → IsTrue (is_map d) → groups_of isa families d
+    ≡ (for_each (label_step isa families) (own_pairs d) nothing_listed
+    >>= (λ listed. Ok listed.labels))
+unfolding groups_of
+groups-are isa families d e m =
+    ap (λ r. r >>= (λ es. for_each (label_step isa families) es nothing_listed
+    >>= (λ listed. Ok listed.labels))) (entries-are (at_label []) d e m)
+
+-- their normal text
+pub normal-is : (isa : Isa) (families : Families) (d : Data) → is_empty_scalar d ≡ false
+    → IsTrue (is_map d) → normal_of isa families d
+    ≡ (told_of (for_each (label_step isa families) (own_pairs d) nothing_listed)
+    >>= (λ t. Ok t.text))
+normal-is isa families d e m =
+    ap (λ g. g >>= (λ groups. Ok (normal_text groups))) (groups-are isa families d e m)
+    ∙ by-answer (for_each (label_step isa families) (own_pairs d) nothing_listed)
+  where
+    by-answer : (r : Found Listed)
+        → ((r >>= (λ listed. Ok listed.labels)) >>= (λ groups. Ok (normal_text groups)))
+        ≡ (told_of r >>= (λ t. Ok t.text))
+    by-answer (Ok listed) = refl
+    by-answer (Err why) = refl
 
 -- the labels that were written are those before an entry
 pub record Stands (isa : Isa) (families : Families) (d : Data) (i : ℕ) (t : Told) : Type 0 where

@@ -56,3 +56,10 @@ pub labels_all : (text : List ℕ) (ls : List Label)
     → text ++ flat_map label_text (map label_view (drop (length ls) ls)) ≡ text
 labels_all text ls =
     ap (λ xs. text ++ flat_map label_text (map label_view xs)) (drop-all ls) ∙ append-nil text
+
+-- six pieces, one after another
+pub in_line : (a b c d e f : List ℕ)
+    → ((((a ++ b) ++ c) ++ d) ++ e) ++ f ≡ a ++ (b ++ (c ++ (d ++ (e ++ f))))
+in_line a b c d e f = append_assoc (((a ++ b) ++ c) ++ d) e f
+    ∙ append_assoc ((a ++ b) ++ c) d (e ++ f) ∙ append_assoc (a ++ b) c (d ++ (e ++ f))
+    ∙ append_assoc a b (c ++ (d ++ (e ++ f)))

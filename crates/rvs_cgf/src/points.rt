@@ -1,13 +1,12 @@
 // Points in order, with the set of their pairs of kind and key.
-ghost use Rattle.std.specs.Prelude.{◌≡◌, ◌∷◌, ◌++◌, [], ℕ, List, ◌||◌, bytes_eq, map, string_bytes};
-ghost use Rattle.std.specs.Prelude.{IfOk};
-ghost use Rattle.std.specs.BTreeSet.{contains_text};
+ghost use Rattle.std.specs.Prelude.{◌≡◌, ◌∷◌, ◌++◌, [], List, map, string_bytes};
+ghost use Rattle.std.specs.Prelude.{IfOk, OnOk};
 ghost use Rattle.rvs_cgf.specs.Groups as spec;
 ghost use Rattle.rvs_points.specs.PointView.{point_view};
 ghost use Rattle.rvs_points.specs.Kinds.{mark};
 ghost use Rattle.rvs_cgf.specs.PointKeys.{AreKeysOf};
 
-use rvs_base::{Items, NoMemory, release};
+use rvs_base::{Items, NoMemory, beside};
 use rvs_points::{Kind, Point};
 use std::alloc::{AllocError, Global};
 use std::collections::BTreeSet;
@@ -46,43 +45,25 @@ fn marked(alloc: Global, kind: Kind, key: &str) -> Result<String, AllocError>
     Ok(text)
 }
 
-/// The set with this text too.
-fn with_text(mut known: BTreeSet<String>, text: String) -> Result<BTreeSet<String>, AllocError>
-    ensures { IfOk result (λ s. (k : List ℕ) →
-        contains_text s k ≡ (contains_text known k || bytes_eq (string_bytes text) k)) }
-{
-    known.insert(text)?;
-    Ok(known)
-}
-
-/// The set with a point's pair too.
-fn with_point(
-    alloc: Global,
-    known: BTreeSet<String>,
-    point: &Point,
-) -> Result<BTreeSet<String>, AllocError>
-    ensures { IfOk result (λ s. (points : List Point) →
-        AreKeysOf known points → AreKeysOf s (points ++ point.now ∷ [])) }
+/// Adds a point's pair.
+fn add_pair(alloc: Global, known: &mut BTreeSet<String>, point: &Point) -> Result<(), AllocError>
+    ensures { OnOk result ((points : List Point) →
+        AreKeysOf known.old points → AreKeysOf known.new (points ++ point.now ∷ [])) }
 {
     let text = marked(alloc, point.kind, point.key.as_str())?;
-    let all = with_text(known, text)?;
-    Ok(all)
+    known.insert(text)?;
+    Ok(())
 }
 
-/// The set with the pairs of these points too.
-fn with_points(
-    alloc: Global,
-    known: BTreeSet<String>,
-    more: &[Point],
-) -> Result<BTreeSet<String>, AllocError>
-    ensures { IfOk result (λ s. (points : List Point) →
-        AreKeysOf known points → AreKeysOf s (points ++ more.now)) }
+/// Adds the pairs of points.
+fn add_pairs(alloc: Global, known: &mut BTreeSet<String>, more: &[Point]) -> Result<(), AllocError>
+    ensures { OnOk result ((points : List Point) →
+        AreKeysOf known.old points → AreKeysOf known.new (points ++ more.now)) }
 {
-    let mut known = known;
     for point in more {
-        known = with_point(alloc, known, point)?;
+        add_pair(alloc, known, point)?;
     }
-    Ok(known)
+    Ok(())
 }
 
 impl Points {
@@ -124,17 +105,11 @@ impl Points {
     pub fn with(self, alloc: Global, point: Point) -> Result<Points, NoMemory>
         ensures { IfOk result (λ p. p.list ≡ self.list ++ point ∷ []) }
     {
-        let Points { mut list, known } = self;
-        match with_point(alloc, known, &point) {
-            Ok(known) => {
-                list.push(point)?;
-                Ok(Points { list, known })
-            }
-            Err(_) => {
-                release((point, list));
-                Err(NoMemory)
-            }
-        }
+        let Points { list, mut known } = self;
+        let added = add_pair(alloc, &mut known, &point);
+        let ((), (point, mut list, known)) = beside(added, (point, list, known))?;
+        list.push(point)?;
+        Ok(Points { list, known })
     }
 
     /// The points with more behind them.
@@ -145,8 +120,9 @@ impl Points {
     pub fn with_all(self, alloc: Global, more: Items<Point>) -> Result<Points, NoMemory>
         ensures { IfOk result (λ p. p.list ≡ self.list ++ more) }
     {
-        let Points { list, known } = self;
-        let known = with_points(alloc, known, more.as_slice())?;
+        let Points { list, mut known } = self;
+        let added = add_pairs(alloc, &mut known, more.as_slice());
+        let ((), (list, known, more)) = beside(added, (list, known, more))?;
         let mut list = list.into_vec();
         let mut more = more.into_vec();
         list.append(&mut more)?;

@@ -23,13 +23,6 @@ fn at_quote(text: &str) -> Option<(&str, &str)>
     text.split_once('\'')
 }
 
-fn push_front(text: &mut Text, front: &str) -> Result<(), NoMemory>
-    ensures { OnOk result (text.new ≡ text.old ++ (front.now ++ (39 ∷ 39 ∷ []))) }
-{
-    text.push_str(front)?;
-    text.push_str("''")
-}
-
 /// Adds a key with each single quote twice.
 #[tactic(auto, using(crate::proofs::Quotes::doubled_more, crate::proofs::Quotes::doubled_all))]
 fn push_doubled(text: &mut Text, key: &str) -> Result<(), NoMemory>
@@ -37,98 +30,57 @@ fn push_doubled(text: &mut Text, key: &str) -> Result<(), NoMemory>
 {
     let mut rest = key;
     while let Some((front, after)) = at_quote(rest) {
-        push_front(text, front)?;
+        text.push_str(front)?;
+        text.push_str("''")?;
         rest = after;
     }
     text.push_str(rest)
 }
 
-fn goes_on(before: Option<Kind>, kind: Kind) -> bool
-    ensures { result ≡ spec.goes_on before kind }
-{
-    match before {
-        None => false,
-        Some(before) => same_kind(before, kind),
-    }
-}
-
 fn push_head_line(text: &mut Text, before: Option<Kind>, kind: Kind) -> Result<(), NoMemory>
     ensures { OnOk result (text.new ≡ text.old ++ spec.head_line before kind) }
 {
-    if goes_on(before, kind) {
-        return Ok(());
+    if let Some(before) = before {
+        if same_kind(before, kind) {
+            return Ok(());
+        }
     }
     text.push_str("  ")?;
     text.push_str(kind.name())?;
     text.push_str(":\n")
 }
 
-fn push_point_line(text: &mut Text, key: &str) -> Result<(), NoMemory>
-    ensures { OnOk result (text.new ≡ text.old ++ spec.point_line key.now) }
-{
-    text.push_str("    '")?;
-    push_doubled(text, key)?;
-    text.push_str("': 0\n")
-}
-
-fn push_point(text: &mut Text, before: Option<Kind>, point: &Point) -> Result<(), NoMemory>
-    ensures { OnOk result (text.new ≡ text.old
-        ++ (spec.head_line before point.now.kind ++ spec.point_line point.now.key)) }
-{
-    push_head_line(text, before, point.kind)?;
-    push_point_line(text, point.key.as_str())
-}
-
 /// Adds the lines of points, a line of their kind before the first of each.
-#[tactic(auto, using(crate::proofs::Texts::points_more, crate::proofs::Texts::points_all))]
+#[tactic(auto, using(crate::proofs::Texts::points_all))]
 fn push_points(text: &mut Text, points: &[Point]) -> Result<(), NoMemory>
     ensures { OnOk result
         (text.new ≡ text.old ++ spec.points_text None (map point_view points.now)) }
 {
     let mut before = None;
     for point in points {
-        push_point(text, before, point)?;
+        push_head_line(text, before, point.kind)?;
+        text.push_str("    '")?;
+        push_doubled(text, point.key.as_str())?;
+        text.push_str("': 0\n")?;
         before = Some(point.kind);
     }
     Ok(())
 }
 
-fn push_line_of(text: &mut Text, node: &str, key: &str) -> Result<(), NoMemory>
-    ensures { OnOk result (text.new
-        ≡ text.old ++ (node.now ++ (codes " " ++ (key.now ++ codes "\n")))) }
-{
-    text.push_str(node)?;
-    text.push_str(" ")?;
-    text.push_str(key)?;
-    text.push_str("\n")
-}
-
-fn push_skipped_line(text: &mut Text, skipped: &Skipped) -> Result<(), NoMemory>
-    ensures { OnOk result (text.new ≡ text.old ++ spec.skipped_line (skipped_view skipped.now)) }
-{
-    text.push_str("  # skipped ")?;
-    push_line_of(text, skipped.node.as_str(), skipped.key.as_str())
-}
-
-#[tactic(auto, using(crate::proofs::Texts::skipped_more, crate::proofs::Texts::skipped_all))]
+/// Adds a comment for each entry that isn't counted.
+#[tactic(auto, using(crate::proofs::Texts::skipped_all))]
 fn push_skipped(text: &mut Text, skipped: &[Skipped]) -> Result<(), NoMemory>
     ensures { OnOk result (text.new ≡ text.old
         ++ flat_map spec.skipped_line (map skipped_view skipped.now)) }
 {
     for one in skipped {
-        push_skipped_line(text, one)?;
+        text.push_str("  # skipped ")?;
+        text.push_str(one.node.as_str())?;
+        text.push_str(" ")?;
+        text.push_str(one.key.as_str())?;
+        text.push_str("\n")?;
     }
     Ok(())
-}
-
-fn push_selected(text: &mut Text, label: &Label) -> Result<(), NoMemory>
-    requires { IsTrue label.now.selected }
-    ensures { OnOk result (text.new ≡ text.old ++ spec.label_text (label_view label.now)) }
-{
-    text.push_str(label.name.as_str())?;
-    text.push_str(":\n")?;
-    push_points(text, label.points.as_slice())?;
-    push_skipped(text, label.skipped.as_slice())
 }
 
 /// Adds the lines of a label.
@@ -136,11 +88,15 @@ pub(crate) fn push_label(text: &mut Text, label: &Label) -> Result<(), NoMemory>
     ensures { OnOk result (text.new ≡ text.old ++ spec.label_text (label_view label.now)) }
 {
     if label.selected {
-        return push_selected(text, label);
+        text.push_str(label.name.as_str())?;
+        text.push_str(":\n")?;
+        push_points(text, label.points.as_slice())?;
+        push_skipped(text, label.skipped.as_slice())
+    } else {
+        text.push_str("# unselected ")?;
+        text.push_str(label.name.as_str())?;
+        text.push_str("\n")
     }
-    text.push_str("# unselected ")?;
-    text.push_str(label.name.as_str())?;
-    text.push_str("\n")
 }
 
 /// The groups as a group file with all points written out: a comment for a label that isn't
@@ -175,22 +131,14 @@ fn expr_text(alloc: Global, why: ExprRefusal) -> Result<Text, NoMemory>
     Ok(Text::from(format!(in alloc; " expr {number} column {column}")?))
 }
 
-fn name_text(alloc: Global, name: &str) -> Result<Text, NoMemory>
-    ensures { IfOk result (λ text. text ≡ codes " " ++ name.now) }
-{
-    let mut text = Text::new(alloc);
-    text.push_str(" ")?;
-    text.push_str(name)?;
-    Ok(text)
-}
-
 /// The name that a cross point may not have, or why its expression is refused.
 fn cross_detail(alloc: Global, why: &CrossRefusal) -> Result<Text, NoMemory>
     ensures { IfOk result (λ text. text ≡ spec.cross_detail why.now) }
 {
     match why {
-        CrossRefusal::UnassignedVariable { name } => name_text(alloc, name.as_str()),
-        CrossRefusal::UnknownMnemonic { name } => name_text(alloc, name.as_str()),
+        CrossRefusal::UnassignedVariable { name } | CrossRefusal::UnknownMnemonic { name } => {
+            Ok(Text::from(format!(in alloc; " {name}")?))
+        }
         CrossRefusal::Expr(why) => expr_text(alloc, *why),
         _ => Ok(Text::new(alloc)),
     }

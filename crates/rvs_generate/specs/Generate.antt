@@ -1,15 +1,13 @@
 -- What `generate` does.
 use Rattle.std.specs.Prelude.{ℕ, if◌then◌else◌, List, [], ◌∷◌, ◌++◌, Option}
-use Rattle.std.specs.Prelude.{Some, None, Result, Ok, Err, codes, ◌≡◌}
-use Rattle.std.specs.List.{flat_map}
+use Rattle.std.specs.Prelude.{Some, None, codes}
 use Rattle.rvs_plan.specs.Plan.{Plan, gives, writes, ◌>>=◌}
-use Rattle.rvs_plan.specs.declared.stop.Stop.{Stop}
 use Rattle.rvs_plan.specs.declared.status.Finish.{Finish}
 use Rattle.rvs_insn.specs.Isa.{Isa}
 use Rattle.rvs_cgf.specs.Groups.{Label}
 use Rattle.rvs_test.specs.Made.{text_of_label}
 use Rattle.rvs_inputs.specs.Printing.{print_text}
-use Rattle.rvs_generate.specs.GenerateTexts.{Totals, none, label_text, with_labels, listing}
+use Rattle.rvs_generate.specs.GenerateTexts.{listing}
 use Rattle.rvs_inputs.specs.GroupFiles.{Inputs}
 use Rattle.rvs_generate.specs.TestedInputs.{part_inputs}
 use Rattle.rvs_words.specs.declared.command.GenerateArguments.{GenerateArguments}
@@ -31,16 +29,6 @@ writes_test work isa l = if l.selected then writes_text (path_of work l.name) (t
 abbrev pub writes_tests : List ℕ → Isa → List Label → Plan (Unit {0})
 writes_tests work isa [] = gives tt
 writes_tests work isa (l ∷ ls) = writes_test work isa l >>= (λ _. writes_tests work isa ls)
-
--- a result whose value is of no account for the plan
-abbrev pub done : {A : Type 0} → Result A Stop → Result (Unit {0}) Stop
-done (Ok a) = Ok tt
-done (Err stop) = Err stop
-
--- what is said of labels, but for the last line, and the totals of that
-pub record IsSaid (isa : Isa) (ls : List Label) (text : List ℕ) (totals : Totals) : Type 0 where
-  pub lines : text ≡ flat_map (label_text isa) ls
-  pub counted : totals ≡ with_labels isa none ls
 
 -- the tests of all labels are written, and this is said of them
 abbrev pub written_tests : List ℕ → Isa → List Label → Plan (List ℕ)

@@ -5,7 +5,6 @@ ghost use Rattle.rvs_points.specs.Valid.{IsValidIfSelected};
 ghost use Rattle.rvs_generate.specs.GenerateTexts as texts;
 ghost use Rattle.rvs_generate.specs.GenerateView.{totals_view};
 ghost use Rattle.rvs_inputs.specs.GroupsView.{groups_view};
-ghost use Rattle.rvs_generate.specs.Generate.{IsSaid};
 ghost use Rattle.rvs_generate.specs.Tests.{held, test_with, tests_of_label, tests_of};
 
 use crate::listing::push_total;
@@ -30,13 +29,6 @@ pub struct Test {
     pub steps: u64,
 }
 
-/// What is said of labels, and their tests.
-#[derive(Drop)]
-struct Gathering {
-    said: Said,
-    tests: Items<Source>,
-}
-
 /// The listing of all labels, and their tests.
 #[derive(Drop)]
 pub struct Gathered {
@@ -56,34 +48,17 @@ pub fn gather_tests(alloc: Global, inputs: &Inputs) -> Result<Gathered, NoMemory
     ensures tests { IfOk result (λ g.
         g.tests ≡ held (tests_of inputs.now.isa (groups_view inputs.now.groups))) }
 {
-    let gathering = gather_labels(alloc, &inputs.isa, inputs.groups.as_slice())?;
-    let Gathering { said, tests } = gathering;
-    let text = with_total(alloc, said)?;
-    Ok(Gathered { text, tests })
-}
-
-/// The text that is said, with the last line.
-fn with_total(alloc: Global, said: Said) -> Result<Text, NoMemory>
-    ensures { IfOk result (λ text.
-        text ≡ said.text ++ texts.total_line (totals_view said.totals)) }
-{
-    let Said { mut text, totals } = said;
-    push_total(alloc, &mut text, &totals)?;
-    Ok(text)
-}
-
-fn gather_labels(alloc: Global, isa: &IsaSpec, labels: &[Label]) -> Result<Gathering, NoMemory>
-    requires { All (λ l. IsValidIfSelected isa.now (label_view l)) labels.now }
-    ensures said { IfOk result (λ g.
-        IsSaid isa.now (groups_view labels.now) g.said.text (totals_view g.said.totals)) }
-    ensures tests { IfOk result (λ g. g.tests ≡ held (tests_of isa.now (groups_view labels.now))) }
-{
+    let labels = inputs.groups.as_slice();
     let mut said = Said::nothing(alloc);
     let mut tests = Items::new(alloc);
     for label in labels {
-        gather_label(alloc, isa, label, &mut said, &mut tests)?;
+        gather_label(alloc, &inputs.isa, label, &mut said, &mut tests)?;
     }
-    Ok(Gathering { said, tests })
+    push_total(alloc, &mut said.text, &said.totals)?;
+    Ok(Gathered {
+        text: said.text,
+        tests,
+    })
 }
 
 /// Makes the test of a label, where a point of it is solved, and says what it is.

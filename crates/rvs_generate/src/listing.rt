@@ -1,5 +1,5 @@
 // What `generate` puts.
-ghost use Rattle.std.specs.Prelude.{◌≡◌, ◌++◌, ◌≤◌, IfOk, IsTrue, OnOk, codes, map, length};
+ghost use Rattle.std.specs.Prelude.{◌≡◌, ◌++◌, OnOk, map};
 ghost use Rattle.rvs_cgf.specs.GroupView.{label_view, point_view};
 ghost use Rattle.rvs_generate.specs.GenerateTexts as spec;
 ghost use Rattle.rvs_generate.specs.GenerateView.{totals_view};
@@ -21,24 +21,6 @@ pub struct Totals {
     pub skipped: u64,
 }
 
-fn push_case(alloc: Global, text: &mut Text, case: usize, point: &Point) -> Result<(), NoMemory>
-    ensures { OnOk result (text.new ≡ text.old ++ spec.case_line case (point_view point.now)) }
-{
-    let kind = point.kind.name();
-    let key = point.key.as_str();
-    let line = format!(in alloc; "case {case} {kind} {key}\n")?;
-    text.push_str(line.as_str())
-}
-
-fn push_unsolved(alloc: Global, text: &mut Text, point: &Point) -> Result<(), NoMemory>
-    ensures { OnOk result (text.new ≡ text.old ++ spec.unsolved_line (point_view point.now)) }
-{
-    let kind = point.kind.name();
-    let key = point.key.as_str();
-    let line = format!(in alloc; "unsolved {kind} {key}\n")?;
-    text.push_str(line.as_str())
-}
-
 fn push_point(
     alloc: Global,
     text: &mut Text,
@@ -47,10 +29,13 @@ fn push_point(
 ) -> Result<(), NoMemory>
     ensures { OnOk result (text.new ≡ text.old ++ spec.point_line case (point_view point.now)) }
 {
-    match case {
-        None => push_unsolved(alloc, text, point),
-        Some(case) => push_case(alloc, text, case, point),
-    }
+    let kind = point.kind.name();
+    let key = point.key.as_str();
+    let line = match case {
+        None => format!(in alloc; "unsolved {kind} {key}\n"),
+        Some(case) => format!(in alloc; "case {case} {kind} {key}\n"),
+    }?;
+    text.push_str(line.as_str())
 }
 
 /// Adds the points in their order, each with its case or without. The claims are in the order of
@@ -84,14 +69,6 @@ fn push_steps(alloc: Global, text: &mut Text, made: &Made) -> Result<(), NoMemor
     text.push_str(line.as_str())
 }
 
-fn push_name(alloc: Global, text: &mut Text, label: &Label) -> Result<(), NoMemory>
-    ensures { OnOk result (text.new ≡ text.old ++ spec.name_line label.now.name) }
-{
-    let name = label.name.as_str();
-    let line = format!(in alloc; "label {name}\n")?;
-    text.push_str(line.as_str())
-}
-
 /// Adds a label with what was made of it.
 ///
 /// # Errors
@@ -101,37 +78,22 @@ pub fn push_made(alloc: Global, text: &mut Text, label: &Label, made: &Made) -> 
     ensures { OnOk result (text.new ≡ text.old
         ++ spec.made_text (label_view label.now) made.now.claims made.now.text made.now.steps) }
 {
-    push_name(alloc, text, label)?;
+    text.push_str("label ")?;
+    text.push_str(label.name.as_str())?;
+    text.push_str("\n")?;
     push_points(alloc, text, made.claims.as_slice(), label.points.as_slice())?;
     push_skipped(alloc, text, label.skipped.as_slice())?;
     push_steps(alloc, text, made)
 }
 
-fn tests_in(made: &Made) -> u64
-    ensures { result ≡ spec.tests_in made.now.text }
-{
-    if made.text.is_some() { 1 } else { 0 }
-}
-
 impl Totals {
-    /// None of all.
-    pub fn none() -> Totals
-        ensures { totals_view result ≡ spec.none }
-    {
-        Totals {
-            tests: 0,
-            cases: 0,
-            unsolved: 0,
-            skipped: 0,
-        }
-    }
-
     /// Adds what was made of a label.
     pub fn add(&mut self, label: &Label, made: &Made)
         ensures { totals_view self.new ≡ spec.with_made (totals_view self.old)
             (label_view label.now) made.now.claims made.now.unsolved made.now.text }
     {
-        self.tests = self.tests.saturating_add(tests_in(made));
+        let tests = if made.text.is_some() { 1 } else { 0 };
+        self.tests = self.tests.saturating_add(tests);
         self.cases = self
             .cases
             .saturating_add(made.claims.as_slice().len() as u64);

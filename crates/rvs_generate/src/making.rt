@@ -31,7 +31,12 @@ impl Said {
     {
         Said {
             text: Text::new(alloc),
-            totals: Totals::none(),
+            totals: Totals {
+                tests: 0,
+                cases: 0,
+                unsolved: 0,
+                skipped: 0,
+            },
         }
     }
 }

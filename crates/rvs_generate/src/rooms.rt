@@ -2,21 +2,18 @@
 ghost use Rattle.std.specs.Prelude.{◌≡◌, ◌<◌, All, IfOk, find, option_map};
 ghost use Rattle.rvs_base.specs.Sink.{SinkState};
 ghost use Rattle.rvs_base.specs.Answers.{seen};
-ghost use Rattle.rvs_plan.specs.World.{World, world};
-ghost use Rattle.rvs_plan.specs.Plan.{Ends};
+ghost use Rattle.rvs_plan.specs.World.{world};
 ghost use Rattle.rvs_plan.specs.Meets.{Meets};
 ghost use Rattle.rvs_insn.specs.Memory.{HasRoom};
 ghost use Rattle.rvs_cgf.specs.GroupView.{label_view};
-ghost use Rattle.rvs_points.specs.Valid.{IsValid, IsValidIfSelected};
-ghost use Rattle.rvs_test.specs.Made as made;
+ghost use Rattle.rvs_points.specs.Valid.{IsValidIfSelected};
 ghost use Rattle.rvs_inputs.specs.GroupsView.{groups_view, inputs_view};
-ghost use Rattle.rvs_generate.specs.TestedInputs.{lacks_room, no_room, with_room, tested_inputs};
+ghost use Rattle.rvs_generate.specs.TestedInputs.{lacks_room, no_room, tested_inputs};
 ghost use Rattle.rvs_generate.specs.Testable.{IsTestableIfSelected};
 ghost use Rattle.rvs_generate.specs.TestedInputs.{part_inputs};
-ghost use Rattle.rvs_inputs.specs.GroupFiles.{parted_inputs};
 
 use rvs_abstract::Families;
-use rvs_base::{Host, Items, NoMemory, Text, release};
+use rvs_base::{Host, Items, NoMemory, Text, beside, release};
 use rvs_cgf::{CgfKind, CgfRefusal, Label};
 use rvs_expr::Steps;
 use rvs_free::Free;
@@ -49,89 +46,63 @@ pub fn read_tested<H: Host>(
         All (λ l. IsTestableIfSelected i.isa (label_view l)) i.groups) }
 {
     let inputs = read_inputs(alloc, host, isa, families, names)?;
-    with_room(alloc, inputs)
-}
-
-fn with_room(alloc: Global, inputs: Inputs) -> Result<Inputs, Stop>
-    requires { All (λ l. IsValidIfSelected inputs.isa (label_view l)) inputs.groups }
-    ensures met { (w : World) → Meets (Ends (with_room (inputs_view inputs))) w w
-        (seen inputs_view result) }
-    ensures testable { IfOk result (λ i.
-        All (λ l. IsTestableIfSelected i.isa (label_view l)) i.groups) }
-{
-    memory_has_room(&inputs.isa);
-    match first_lacking(alloc, &inputs.isa, inputs.groups.as_slice()) {
-        Ok(lacking) => match lacking {
-            None => Ok(inputs),
-            Some(text) => {
-                release_inputs(inputs);
-                Err(Stop::Refused(text))
-            },
-        },
-        Err(NoMemory) => {
+    let lacking = first_lacking(alloc, &inputs.isa, inputs.groups.as_slice());
+    let (lacking, inputs) = beside(lacking, inputs)?;
+    match lacking {
+        None => Ok(inputs),
+        Some(text) => {
             release_inputs(inputs);
-            Err(Stop::NoMemory)
+            Err(Stop::Refused(text))
         },
     }
-}
-
-/// That the memory of a core has room at all: an invariant of its type, which the call here brings.
-fn memory_has_room(isa: &IsaSpec)
-    ensures { HasRoom isa.now.memory }
-{
-    let _limit = isa.memory.text_limit();
 }
 
 /// Why labels are refused: the first that is selected and for whose test the core has no room.
 fn first_lacking(alloc: Global, isa: &IsaSpec, labels: &[Label]) -> Result<Option<Text>, NoMemory>
     requires { All (λ l. IsValidIfSelected isa.now (label_view l)) labels.now }
+    ensures text { IfOk result (λ text.
+        text ≡ option_map no_room (find (lacks_room isa.now) (groups_view labels.now))) }
+    ensures room { HasRoom isa.now.memory }
+{
+    // that the memory has room at all is an invariant of its type, which this call brings
+    let _limit = isa.memory.text_limit();
+    lacking_counted::<Brand>(Blank::new(1), alloc, isa, labels)
+}
+
+/// The same, with a counter of evaluations that no one reads.
+fn lacking_counted<L: Ledger>(
+    blank: Blank,
+    alloc: Global,
+    isa: &IsaSpec,
+    labels: &[Label],
+) -> Result<Option<Text>, NoMemory>
+    requires name { blank.name ≡ L.name }
+    requires parts { blank.parts ≡ L.parts }
+    requires some { 0 < blank.parts }
+    requires valid { All (λ l. IsValidIfSelected isa.now (label_view l)) labels.now }
+    ensures { IfOk result (λ text.
+        text ≡ option_map no_room (find (lacks_room isa.now) (groups_view labels.now))) }
+{
+    let mut steps: Steps<L> = Steps::new(blank, Free::new());
+    find_lacking(alloc, isa, labels, &mut steps)
+}
+
+fn find_lacking<L: Ledger>(
+    alloc: Global,
+    isa: &IsaSpec,
+    labels: &[Label],
+    steps: &mut Steps<L>,
+) -> Result<Option<Text>, NoMemory>
+    requires { All (λ l. IsValidIfSelected isa.now (label_view l)) labels.now }
     ensures { IfOk result (λ text.
         text ≡ option_map no_room (find (lacks_room isa.now) (groups_view labels.now))) }
 {
     for label in labels {
-        if lacks_room(alloc, isa, label)? {
+        if label.selected && !has_room(alloc, label, isa, steps)? {
             return Ok(Some(no_room(alloc, label)?));
         }
     }
     Ok(None)
-}
-
-/// Whether a label is selected and the core has no room for its test.
-#[tactic(auto, unfolding(crate::specs::TestedInputs::lacks_room))]
-fn lacks_room(alloc: Global, isa: &IsaSpec, label: &Label) -> Result<bool, NoMemory>
-    requires { IsValidIfSelected isa.now (label_view label.now) }
-    ensures { IfOk result (λ is. is ≡ lacks_room isa.now (label_view label.now)) }
-{
-    if label.selected {
-        let room = room_for(alloc, label, isa)?;
-        return Ok(!room);
-    }
-    Ok(false)
-}
-
-/// Whether a core has room for the test of a label.
-fn room_for(alloc: Global, label: &Label, isa: &IsaSpec) -> Result<bool, NoMemory>
-    requires { IsValid isa.now (label_view label.now) }
-    ensures { IfOk result (λ is. is ≡ made.has_room isa.now (label_view label.now)) }
-{
-    room_counted::<Brand>(Blank::new(1), alloc, label, isa)
-}
-
-/// The same, with a counter of evaluations that no one reads.
-fn room_counted<L: Ledger>(
-    blank: Blank,
-    alloc: Global,
-    label: &Label,
-    isa: &IsaSpec,
-) -> Result<bool, NoMemory>
-    requires name { blank.name ≡ L.name }
-    requires parts { blank.parts ≡ L.parts }
-    requires some { 0 < blank.parts }
-    requires valid { IsValid isa.now (label_view label.now) }
-    ensures { IfOk result (λ is. is ≡ made.has_room isa.now (label_view label.now)) }
-{
-    let mut steps: Steps<L> = Steps::new(blank, Free::new());
-    has_room(alloc, label, isa, &mut steps)
 }
 
 /// Why groups are refused for a label for whose test there is no room.
@@ -170,15 +141,6 @@ pub fn read_labels<H: Host>(
         (λ i. All (λ l. IsTestableIfSelected i.isa (label_view l)) i.groups) }
 {
     let inputs = read_tested(alloc, host, isa, families, names)?;
-    Ok(kept_inputs(alloc, inputs, part)?)
-}
-
-fn kept_inputs(alloc: Global, inputs: Inputs, part: &Option<Part>) -> Result<Inputs, NoMemory>
-    requires { All (λ l. IsTestableIfSelected inputs.isa (label_view l)) inputs.groups }
-    ensures kept { IfOk result (λ i. inputs_view i ≡ parted_inputs part.now (inputs_view inputs)) }
-    ensures testable { IfOk result
-        (λ i. All (λ l. IsTestableIfSelected i.isa (label_view l)) i.groups) }
-{
     let Inputs { isa, groups } = inputs;
     let groups = kept_labels(alloc, groups, part)?;
     Ok(Inputs { isa, groups })

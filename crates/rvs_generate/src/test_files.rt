@@ -1,6 +1,5 @@
 // The files of a label's test.
 ghost use Rattle.std.specs.Prelude.{◌≡◌, ◌++◌, IfOk, codes};
-ghost use Rattle.rvs_generate.specs.Generate.{path_of};
 ghost use Rattle.rvs_generate.specs.TestFiles.{files_of, files_at};
 
 use crate::sources::Given;
@@ -30,7 +29,7 @@ impl TestFiles {
     pub fn new(alloc: Global, work: &Text, name: &Text) -> Result<TestFiles, NoMemory>
         ensures { IfOk result (λ files. files ≡ files_of work.now name.now) }
     {
-        let test = test_path(alloc, work, name)?;
+        let test = path(alloc, work, name, ".S")?;
         with_test(alloc, work, name, test)
     }
 
@@ -68,18 +67,12 @@ fn with_test(alloc: Global, work: &Text, name: &Text, test: Text) -> Result<Test
     })
 }
 
-/// The test of the label of this name in a folder.
+/// The file of a folder with this name and ending.
 ///
 /// # Errors
 ///
 /// [`NoMemory`].
-pub fn test_path(alloc: Global, work: &Text, name: &Text) -> Result<Text, NoMemory>
-    ensures { IfOk result (λ path. path ≡ path_of work.now name.now) }
-{
-    path(alloc, work, name, ".S")
-}
-
-fn path(alloc: Global, work: &Text, name: &Text, ending: &str) -> Result<Text, NoMemory>
+pub fn path(alloc: Global, work: &Text, name: &Text, ending: &str) -> Result<Text, NoMemory>
     ensures { IfOk result (λ path. path
         ≡ work.now ++ (codes "/" ++ (name.now ++ ending.now))) }
 {

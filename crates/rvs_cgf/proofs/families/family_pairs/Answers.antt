@@ -13,7 +13,7 @@ loop-j-preserved c =
     let below : c.loop-j.j < count_of a =
     omega (arith, c.loop-j-test.true, c.len-j-end.ensures) in
     step-more (with_jth (place_view c.args.place) a b) (count_of a) c.loop-j.j
-    (taken_view c.loop-j.taken) (taken_view c.in-Ok.next) below c.in-Ok.ensures
+    (taken_view c.loop-j.taken) (taken_view c.with_jth.new.taken) below c.in-Ok.ensures
     ∙ c.loop-j.invariant
 
 pub returns-in-Err : goal.returns-in-Err

@@ -12,6 +12,8 @@ returns-in-Ok c =
     let beside = c.args.beside in
     let same : to_z w64 (of_z w64 value) ≡ value = to_z-of_z _ _ c.ranges.value in
     let too : to_z w64 (of_z w64 beside) ≡ beside = to_z-of_z _ _ c.ranges.beside in
-    pair-is c.in_ok-key.key (typed.view c.in-Ok.expr) c.args.var value c.args.other beside
-    c.requires.first c.requires.second (rw (same, too) at c.in_ok-key.ensures)
+    pair-is c.from-key.result (typed.view c.in-Ok.expr) c.args.var value c.args.other beside
+    c.requires.first c.requires.second
+    (c.from-key.ensures ∙ (rw (same, too, c.written-name.ensures, c.written-second.ensures)
+    at c.in_ok-format.ensures.ok))
     (ap (λ t. parse Numbers [] t) (sym c.as_str.ensures) ∙ c.in-Ok.ensures.parsed)

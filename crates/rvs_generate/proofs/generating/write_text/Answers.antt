@@ -11,22 +11,22 @@ pub returns-in-None : goal.returns-in-None
 returns-in-None g c =
     λ out. rw c.in-None.is (Meets-gives tt (world (g.H.Host.state c.args.host.now) out))
 
-pub returns-in_err-path-in-Some : goal.returns-in_err-path-in-Some
-returns-in_err-path-in-Some g c = λ out.
+pub returns-in_err-name-in-Some : goal.returns-in_err-name-in-Some
+returns-in_err-name-in-Some g c = λ out.
     let p = err_from_is_err_and c.from_residual.result c.from_residual.ensures.1 in
     rw (c.in-Some.is, p.1, p.2) (Meets-no_memory
     (writes (path_of c.args.work.now c.args.name.now) c.in-Some.text)
     (world (g.H.Host.state c.args.host.now) out))
 
-pub returns-in_ok-path-in-Some : goal.returns-in_ok-path-in-Some
-returns-in_ok-path-in-Some g c = λ out.
+pub returns-in_ok-name-in-Some : goal.returns-in_ok-name-in-Some
+returns-in_ok-name-in-Some g c = λ out.
     let old = world (g.H.Host.state c.args.host.now) out in
     let new = world (g.H.Host.state c.write_output.new.host) out in
     let bytes : c.as_bytes.result.now ≡ c.in-Some.text =
     c.as_bytes.ensures.value ∙ c.as_str.ensures in
     let here = subst
     (λ (path : List ℕ). Meets (writes path c.as_bytes.result.now) old new c.write_output.result)
-    c.in_ok-path-in-Some.ensures (c.write_output.ensures out) in
+    c.in_ok-name-in-Some.ensures (c.write_output.ensures out) in
     rw c.in-Some.is (subst (λ (text : List ℕ). Meets
     (writes (path_of c.args.work.now c.args.name.now) text) old new c.write_output.result) bytes
     here)
